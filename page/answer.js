@@ -79,13 +79,15 @@ function tileOf({ label, number, written, note }, before, told, isBroken) {
   const sign = !isOther || before.number === null || number === null ? ''
     : number < before.number ? 'better' : 'worse';
   return element('div', { className: `tile ${sign} ${isBroken ? 'broken' : ''}` },
-    element('span', { className: 'label' }, label, note ? element('span', { className: 'of', textContent: ` ${note}` }) : ''),
+    element('span', { className: 'label' }, label,
+      note ? element('span', { className: 'of', textContent: ` ${note}` }) : ''),
     element('strong', { textContent: text(number) }), element('span', { className: 'was', textContent: !isOther ? ''
       : `${{ better: '↓ ', worse: '↑ ' }[sign] ?? ''}from ${text(before.number)}` }),
     element('span', { className: 'spread-of' }, ...told(text)));
 }
 
-// Shows the answer of one variant, with what its tiles were before a slider moved, or of two: from A to B. Gives its tiles.
+// Shows the answer of one variant, with what its tiles were before a slider moved, or of two: from A to B. Gives its
+// tiles.
 function showAnswer(sides, before, require) {
   const side = sides.at(-1), tiles = tilesOf(side.result), { spread } = side;
   const from = sides.length > 1 ? tilesOf(sides[0].result) : before;

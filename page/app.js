@@ -446,8 +446,8 @@ function showText(isShown) {
 
 const titleOf = name => name.replace(/[.]toml$/, '').replaceAll('_', ' ');
 
-// Keeps the tiles, and the inputs as far as they fit, in view as the page scrolls: the lower end of inputs that are longer
-// than the window comes into view with the page, so that there is one scroll bar alone.
+// Keeps the tiles, and the inputs as far as they fit, in view as the page scrolls: the lower end of inputs that are
+// longer than the window comes into view with the page, so that there is one scroll bar alone.
 function keepInView() {
   const tall = byId('tiles').offsetHeight, { style } = document.documentElement;
   style.setProperty('--tiles', `${tall}px`);
@@ -472,6 +472,17 @@ byId('file').onchange = async ({ target }) => {
   if (target.files.length) await openFiles([...target.files]);
   target.value = '';
 };
+// Files that are dropped anywhere open as those that are chosen, and so does a text that is pasted beside all fields.
+document.addEventListener('dragover', event => event.preventDefault());
+document.addEventListener('drop', async event => {
+  event.preventDefault();
+  if (event.dataTransfer.files.length) await openFiles([...event.dataTransfer.files]);
+});
+document.addEventListener('paste', event => {
+  if (/^(INPUT|TEXTAREA)$/.test(document.activeElement?.tagName)) return;
+  const text = event.clipboardData.getData('text/plain');
+  if (text.trim()) open([text]);
+});
 // What a change has put off does not begin, or end, what is asked for here.
 byId('run').onclick = () => {
   clearTimeout(timer);

@@ -1,5 +1,5 @@
-// The curve of a slider: what comes out with ten of its values, each with some seeds. The page has this file. It draws one
-// number of the answer, the one that is chosen for the requirement.
+// The curve of a slider: what comes out with ten of its values, each with some seeds. The page has this file. It draws
+// the number of the answer that is chosen for the requirement.
 
 // So many seeds are run of each value: as many as have about so many rows in all, which takes some seconds, and at most
 // so many.
@@ -7,7 +7,7 @@ const CURVE_ROWS = 500000, CURVE_SEEDS = 20;
 const CURVE_HEIGHT = 170, CURVE_TOP = 14, CURVE_BOTTOM = 24;
 
 class Curve {
-  // `chosen` is called with a slider and its value as a point of the curve is clicked, and `require` is the requirement.
+  // `chosen` is called with a slider and a value as a point of the curve is clicked; `require` is the requirement.
   constructor(require, chosen) {
     Object.assign(this, { require, chosen, box: byId('curve'), picture: byId('curve-picture'), points: [], turn: 0 });
     this.asker = new Asker(() => this.close());
@@ -58,9 +58,10 @@ class Curve {
     const { key, of, title } = this.slider, ranges = this.ranges, tile = this.points.find(({ tiles }) => tiles.length);
     const label = byId('measure').selectedOptions[0]?.textContent ?? '';
     setText(byId('curve-title'), `${label} by ${key.name} of ${of || title}`);
-    setText(byId('curve-note'), `${this.done < this.seeds ? `${this.done} of ` : ''}${several(this.seeds, 'seed')} each: the `
-      + 'line is their middle. A click on a point takes its value.');
-    const write = number => number === null ? 'none' : tile ? tile.tiles[0][this.require.tile].written(number) : String(number);
+    setText(byId('curve-note'), `${this.done < this.seeds ? `${this.done} of ` : ''}${several(this.seeds, 'seed')} each: `
+      + 'the line is their middle. A click on a point takes its value.');
+    const { written: inWords } = tile?.tiles[0][this.require.tile] ?? { written: String };
+    const write = number => number === null ? 'none' : inWords(number);
     this.picture.replaceChildren(this.drawn(ranges, write));
     byId('curve-table').replaceChildren(tableOf(byId('curve-title').textContent, [key.name, 'least', 'middle', 'greatest'],
       ranges.map(({ value, range }) => ({ cells: [written(key.name, value),
@@ -68,7 +69,8 @@ class Curve {
   }
 
   drawn(ranges, write) {
-    const width = Math.max(260, this.box.clientWidth - 2), { most: required } = this.require, { key, value: now } = this.slider;
+    const width = Math.max(260, this.box.clientWidth - 2), { most: required } = this.require;
+    const { key, value: now } = this.slider, isRed = range => required !== null && range !== null && range[1] > required;
     const known = ranges.filter(({ range }) => range), isTime = this.require.tile === AGE_TILE;
     const most = Math.max(1, required ?? 0, ...known.map(({ range }) => range[2]));
     const x = i => LEFT + 12 + (width - LEFT - RIGHT - 24) * i / Math.max(1, ranges.length - 1);
@@ -87,12 +89,13 @@ class Curve {
         drawn('path', { class: 'line age', d: `M${line(1).join('L')}` }));
     }
     if (required !== null) {
-      parts.push(drawn('line', { class: 'required', x1: LEFT, x2: width - RIGHT, y1: y(required), y2: y(required) }));
+      const nowIs = ranges.find(({ value }) => value === now)?.range ?? null;
+      parts.push(drawn('line', { class: `required ${isRed(nowIs) ? 'broken' : ''}`, x1: LEFT, x2: width - RIGHT, y1: y(required), y2: y(required) }));
     }
     for (const { i, value, range } of points) {
-      const isBroken = required !== null && range[1] > required;
-      const point = drawn('circle', { class: `point ${isBroken ? 'broken' : ''}`, cx: x(i), cy: y(range[1]),
-        r: value === now ? 7 : 4.5 }, drawn('title', {}, `${written(key.name, value)}: ${range.map(write).join(', ')}`));
+      const title = drawn('title', {}, `${written(key.name, value)}: ${range.map(write).join(', ')}`);
+      const point = drawn('circle', { class: `point ${isRed(range) ? 'broken' : ''}`, cx: x(i), cy: y(range[1]),
+        r: value === now ? 7 : 4.5 }, title);
       point.addEventListener('click', () => this.chosen(this.slider, value));
       parts.push(point);
     }

@@ -1,5 +1,5 @@
-// What is drawn of one queue: its messages in each place, the ages, and what left it for a bad reason. The page has this
-// file.
+// What is drawn of one queue: its messages in each place, the ages, and what left it for a bad reason. The page has
+// this file.
 
 const LEFT = 52, RIGHT = 10, CAPTION = 16, AXIS = 22;
 const HEIGHTS = { places: 110, ages: 80, counts: 48 };
@@ -75,8 +75,11 @@ class Figure {
   // The parts of the picture: those that have something to show in any variant.
   panels() {
     const most = of => greatestOf(this.shares.map(({ data }) => of(data)));
-    const places = most(data => greatestOf(data.places.map(place => greatestOf(place.greatest))));
-    const ages = most(data => Math.max(greatestOf(data.ages[GREATEST] ?? []), greatestOf(data.oldest?.greatest ?? [])));
+    const spread = of => greatestOf(this.shares.map(it => it.spread ? of(it.spread) : 0));
+    const places = Math.max(most(data => greatestOf(data.places.map(place => greatestOf(place.greatest)))),
+      spread(it => greatestOf(it.places.map(({ greatest }) => greatestOf(greatest)))));
+    const ages = Math.max(spread(it => greatestOf(it.ages.greatest)), most(data =>
+      Math.max(greatestOf(data.ages[GREATEST] ?? []), greatestOf(data.oldest?.greatest ?? []))));
     const counts = most(({ redrives, expiries }) => greatestOf([...redrives, ...expiries]));
     const panels = [{ kind: 'places', caption: 'messages', most: Math.max(1, places) }];
     if (ages > 0) panels.push({ kind: 'ages', caption: 'age', most: ages, isTime: true, isLog: this.isLog });
@@ -188,8 +191,9 @@ class Figure {
       const { means, least, greatest } = data.places[i];
       // what stays at zero is not drawn, so that lines on one another do not mix there
       const line = means.map((mean, at) => greatest[at] ? mean : NaN);
-      return [this.spreadOf(spread?.places[i], kind, y), drawn('path', { class: `band ${kind}`, d: bands(least, greatest, x,
-        y) }), drawn('path', { class: `line ${kind}`, d: steps(line, x, y) })];
+      return [this.spreadOf(spread?.places[i], kind, y),
+        drawn('path', { class: `band ${kind}`, d: bands(least, greatest, x, y) }),
+        drawn('path', { class: `line ${kind}`, d: steps(line, x, y) })];
     }).reverse();
   }
 
@@ -200,11 +204,12 @@ class Figure {
     const low = extent.from, width = (extent.to - low) / least.length;
     const inView = Array.from(least, (_, i) => low + (i + 1) * width > from && low + i * width < to);
     const at = i => x(Math.min(to, Math.max(from, low + i * width)));
-    return drawn('path', { class: `spread ${kind}`, d: bands(least.map((it, i) => inView[i] ? it : NaN), greatest, at, y) });
+    const seen = least.map((it, i) => inView[i] ? it : NaN);
+    return drawn('path', { class: `spread ${kind}`, d: bands(seen, greatest, at, y) });
   }
 
-  // The ages of messages that were deleted as a band from the middle to the greatest with 95 % as a line, and the age of
-  // the oldest one.
+  // The ages of messages that were deleted, as a band from the middle to the greatest with 95 % as a line, and the age
+  // of the oldest one.
   ages(data, spread, y) {
     const x = this.xOf(data.ages[0].length), fine = this.xOf(data.oldest.means.length), { means } = data.oldest;
     return [this.spreadOf(spread?.ages, 'age', y), drawn('path', { class: 'line oldest', d: steps(means, fine, y) }),

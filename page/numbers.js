@@ -2,6 +2,8 @@
 // and 5 %. A slider goes over all that its key may have, in round steps.
 
 const NUMBERS_MOST = 80;
+// The values of a slider that are tried lie within so many of its stops.
+const NEAR_STOPS = 13;
 // Longer ranges than this are gone through in round numbers, and not one by one.
 const ONE_BY_ONE = 60;
 // So many groups of numbers are open at first, where no question says which numbers matter first.
@@ -44,9 +46,9 @@ function stopsOf(key) {
   const stops = [low, ...Array.from({ length: 10 }, (_, i) => i + 1)];
   for (let power = 10; power <= (unit ? 100 : high); power *= 10) stops.push(...ROUND.map(digit => digit * power));
   if (unit) for (const [size, steps] of TIME_STEPS) stops.push(...steps.map(step => step * size / unit));
-  const whole = stops.filter(stop => Number.isInteger(stop) && stop >= low && stop <= high && (unit !== 1000 || stop <= 50
-    || stop * unit % 6e4 === 0));
-  return ascending([...whole, high]);
+  // past a minute, seconds are whole minutes
+  const isRound = stop => unit !== 1000 || stop <= 50 || stop % 60 === 0;
+  return ascending([...stops.filter(stop => Number.isInteger(stop) && stop >= low && stop <= high && isRound(stop)), high]);
 }
 
 const ascending = numbers => [...new Set(numbers)].sort((a, b) => a - b);
@@ -117,8 +119,7 @@ class NumberPanel {
   }
 
   build(numbers, count) {
-    const first = this.paths.map(path => [path, numbers.filter(({ of, name, key }) => isNamed(path, of, name, key.name))])
-      .filter(([, all]) => all.length).map(([path, all]) => this.sliderOf(all, path));
+    const first = this.firstOf(numbers);
     const groups = new Map();
     for (const number of numbers) {
       if (first.some(({ places }) => places.length === 1 && places[0] === number.place)) continue;
@@ -131,6 +132,17 @@ class NumberPanel {
       `The first ${numbers.length} of ${grouped(count)} numbers have a slider; change the others in the text.` })] : [];
     this.box.replaceChildren(...[...groups].map(([title, sliders], i) =>
       this.groupOf(title, sliders, !first.length && i < OPEN_FIRST)), ...more);
+  }
+
+  // The sliders that the question is about. A path that names nothing more than those before it has none.
+  firstOf(numbers) {
+    const taken = new Set(), sliders = [];
+    for (const path of this.paths) {
+      const all = numbers.filter(({ of, name, key }) => isNamed(path, of, name, key.name));
+      if (all.some(({ place }) => !taken.has(place))) sliders.push(this.sliderOf(all, path));
+      for (const { place } of all) taken.add(place);
+    }
+    return sliders;
   }
 
   // The sliders of one table, under its name, which opens and closes them.
@@ -162,10 +174,12 @@ class Slider {
     const label = element('label', { for: id, title: about }, element('code', { textContent: key.name }),
       of ? ` of ${of}` : '', key.since > 2 ? element('span', { className: 'mark', textContent: 'version 3' }) : '');
     const curve = element('button', { type: 'button', className: 'try', textContent: 'try 10', onclick: () => tried(this),
-      title: `Try 10 values of ${key.name} and draw what comes out`, 'aria-label': `Try 10 values of ${key.name} of ${title}` });
-    this.box = element('div', { className: 'number-row' }, label, this.field, curve, element('div', { className: 'reach' },
-      element('span', { textContent: written(key.name, key.low) }), this.range,
-      element('span', { textContent: key.high > 2 ** 53 ? '…' : written(key.name, key.high) })));
+      title: 'Try 10 values of this number, and draw what comes out',
+      'aria-label': `Try 10 values of ${key.name} of ${title}` });
+    const ends = [written(key.name, key.low), key.high > 2 ** 53 ? '…' : written(key.name, key.high)];
+    const [low, high] = ends.map(textContent => element('span', { textContent }));
+    this.box = element('div', { className: 'number-row' }, label, this.field, curve,
+      element('div', { className: 'reach' }, low, this.range, high));
   }
 
   slid() {
@@ -217,7 +231,7 @@ class Slider {
 
   // Ten of its stops around its number, which is one of them.
   tenValues() {
-    const at = this.stops.indexOf(this.value), span = Math.min(this.stops.length - 1, 27);
+    const at = this.stops.indexOf(this.value), span = Math.min(this.stops.length - 1, NEAR_STOPS);
     const from = Math.max(0, Math.min(at - Math.floor(span / 2), this.stops.length - 1 - span));
     const values = Array.from({ length: 10 }, (_, i) => this.stops[from + Math.round(i * span / 9)]);
     return ascending([...values.filter(value => value !== this.value).slice(0, 10), this.value]);

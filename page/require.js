@@ -1,4 +1,4 @@
-// A requirement: that a number of the answer is at most so much. The page has this file. It is judged by the tiles, and is a
+// A requirement: that a number of the answer is at most so much. The page has this file. The tiles judge it, and it is a
 // line in the pictures.
 
 // What each tile is, by its place: how its number is written and read, and the panel in which it is a line.
@@ -52,7 +52,8 @@ class Requirement {
   lineIn(kind, values) {
     const of = { ages: AGE_TILE, places: BACKLOG_TILE }[kind];
     if (this.most === null || of !== this.tile) return null;
-    const number = kind === 'ages' ? values?.age_p95_ms : values?.depth_greatest, isBroken = this.isBroken(of, number ?? null);
+    const number = (kind === 'ages' ? values?.age_p95_ms : values?.depth_greatest) ?? null;
+    const isBroken = this.isBroken(of, number);
     const most = kind === 'ages' ? `95 % at most ${duration(this.most)}` : `at most ${grouped(this.most)} in all`;
     return { most: this.most, isBroken, text: `${most}${isBroken ? ': exceeded' : ''}` };
   }

@@ -24,7 +24,8 @@ function rangeOf(numbers) {
 // Of columns over time the least and the greatest that came so far.
 class Extent {
   constructor(from, to, count) {
-    Object.assign(this, { from, to, least: new Float32Array(count).fill(NaN), greatest: new Float32Array(count).fill(NaN) });
+    Object.assign(this, { from, to });
+    [this.least, this.greatest] = [0, 1].map(() => new Float32Array(count).fill(NaN));
   }
 
   add(low, high) {

@@ -4,6 +4,7 @@ import base64
 import binascii
 import gzip
 import hashlib
+import html
 import json
 import os
 import re
@@ -23,6 +24,11 @@ PAGE = ("units", "dom", "kept", "scenario", "faults", "asker", "side", "link", "
         "tables", "answer", "seeds", "require", "curve", "log_view", "app")
 FIRST = "retries/three_tries.toml"
 TO_BEGIN = "What is a scenario?"
+# What those that list or show the page say of it.
+TITLE = "What will our SQS queues do?"
+ABOUT = ("Change a number and look: a proved simulator plays a network of Amazon SQS queues with its producers and "
+         "consumers. All of it runs in the page.")
+PREVIEW_PICTURE = "preview.png"
 QUESTION = re.compile(r"\]\(examples/([a-z_]+)/README[.]md\)")
 # A number of a queue, an actor or a task that a command line of a README varies.
 VARIED = re.compile(r"--vary '?((?:queue|actor|task)[.][^ =']+[.][a-z_]+)=")
@@ -59,23 +65,28 @@ def examples() -> list[dict[str, Any]]:
         texts = {name: read_text(os.path.join(place, name)) for name in sorted(os.listdir(place))
                  if name.endswith(".toml")}
         tables = {name: parsed(text, name) for name, text in texts.items()}
-        varies = list(dict.fromkeys([*VARIED.findall(readme), *(differing(tables.values()) if folder else [])]))
+        differ = differing(tables.values()) if folder else []
+        varies = list(dict.fromkeys([*VARIED.findall(readme), *differ]))
         found += [{"folder": folder, "name": name, "question": question, "varies": varies, "text": text,
                    "answer": first_line(text).removeprefix(question).strip(), "version": tables[name]["version"]}
-                  for name, text in texts.items() if tables[name]["version"] != PREVIEW]
+                  for name, text in sorted(texts.items(), key=lambda it: [
+                      numbers_of(tables[it[0]]).get(path, -1) for path in varies]) if tables[name]["version"] != PREVIEW]
     return found
 
 
+def numbers_of(scenario: dict[str, Any]) -> dict[str, int]:
+    """The numbers of a scenario, as `sweep` names them. Names that end in a number are taken as one."""
+    return {f"{of}.{re.sub(r'-[0-9]+$', '-*', table['name'])}.{key}": value
+            for of in ("queue", "actor", "task") for table in scenario.get(of, []) for key, value in table.items()
+            if isinstance(value, int) and not isinstance(value, bool)}
+
+
 def differing(scenarios: Iterable[dict[str, Any]]) -> list[str]:
-    """The numbers by which some scenarios differ, as `sweep` names them. Names that end in a number are taken as one."""
+    """The numbers by which some scenarios differ."""
     values: dict[str, set[int]] = {}
     for scenario in scenarios:
-        for of in ("queue", "actor", "task"):
-            for table in scenario.get(of, []):
-                for key, value in table.items():
-                    if isinstance(value, int) and not isinstance(value, bool):
-                        name = re.sub(r"-\d+$", "-*", table["name"])
-                        values.setdefault(f"{of}.{name}.{key}", set()).add(value)
+        for path, value in numbers_of(scenario).items():
+            values.setdefault(path, set()).add(value)
     return [path for path, found in values.items() if len(found) > 1]
 
 
@@ -128,8 +139,16 @@ def sum_of(text: str) -> str:
     return base64.b64encode(hashlib.sha256(text.encode()).digest()).decode()
 
 
-def page_of(module: bytes) -> bytes:
-    """The page with a module in it."""
+def about_site(address: str) -> str:
+    """What the page of a site says of itself to those that list or show it: its picture has to have a whole address."""
+    told = {"og:type": "website", "og:title": TITLE, "og:description": ABOUT, "og:url": address,
+            "og:image": f"{address}{PREVIEW_PICTURE}", "twitter:card": "summary_large_image"}
+    lines = (f'<meta property="{html.escape(name)}" content="{html.escape(value)}">\n' for name, value in told.items())
+    return f'<link rel="canonical" href="{html.escape(address)}">\n{"".join(lines)}'
+
+
+def page_of(module: bytes, address: str | None = None) -> bytes:
+    """The page with a module in it; that of a site with its address, which ends in a slash."""
     data = f"const KEYS={as_json(keys())};\nconst DATA={as_json({'examples': examples(), 'first': FIRST})};\n"
     script = checked(f"\n(() => {{\n'use strict';\n{data}{scripts(PAGE)}}})();\n", "page/")
     style = checked(f"\n{read_text(os.path.join(PARTS, 'page.css'))}", "page/page.css")
@@ -137,6 +156,7 @@ def page_of(module: bytes) -> bytes:
     parts = {"STYLE": style, "SCRIPT": script, "WORKER": checked(f"\n'use strict';\n{scripts(WORKER)}", "page/"),
              "POLICY": POLICY.format(script=sum_of(script), style=sum_of(style)),
              "MODULE": base64.b64encode(release.packed(module)).decode(),
-             "VERSIONS": f"version {version}, module {release.sum_of(module)}"}
+             "VERSIONS": f"version {version}, module {release.sum_of(module)}", "ABOUT": html.escape(ABOUT),
+             "SITE": about_site(address) if address else ""}
     page = MARK.sub(lambda mark: parts[mark[1]], read_text(os.path.join(PARTS, "page.html")))
     return page.encode()

@@ -314,6 +314,25 @@ to = "moved"
                                  "seed = 5\n", "version = 1\nseed=0 # last\n"],
                                 [[1, 2, 3], [1, 2, 4], [5, 5, 5], None, [7, 7, 7]]])
 
+    def test_site(self) -> None:
+        """A folder for a server has the page, which says what it is, and its picture; both words go together."""
+        page = self.path("public/index.html")
+        words = "--module", os.path.join(TOP, "dist", "playground.html"), "--site", self.path("public")
+        status, out, err = self.run_tool("page", *words, "--address", "https://example.org/a&b/")
+        self.assertEqual((status, err), (0, ""))
+        self.assertIn("index.html of ", out)
+        text = read_text(page)
+        for line in ('<meta property="og:image" content="https://example.org/a&amp;b/preview.png">',
+                     '<link rel="canonical" href="https://example.org/a&amp;b/">', '<meta name="description" content="Change'):
+            self.assertIn(line, text)
+        self.assertLessEqual(os.path.getsize(page), 900_000)
+        with open(self.path("public/preview.png"), "rb") as file:
+            self.assertEqual(file.read(4), b"\x89PNG")
+        for more, line in (((), "--site and --address go together"), (("--address", "example.org"), "is no address of a folder")):
+            status, out, err = self.run_tool("page", *words, *more)
+            self.assertEqual((status, out), (2, ""))
+            self.assertIn(line, err)
+
     def test_out_of_memory(self) -> None:
         """What browsers say when memory is out is shown as that; other errors are not."""
         said = ("WebAssembly.instantiate(): Out of memory: Cannot allocate Wasm memory for new instance",
