@@ -10,18 +10,31 @@ const greatestBy = (queues, key) => queues.filter(queue => queue[key] !== null)
 // The queues that others send their dead letters to, by their names.
 const deadLetterQueues = values => new Set(values.flatMap(queue => queue.dead_lettered_to));
 
-// The queues that a reader asks about: all but those that only dead letters come to, or all if there is no other.
-function mainQueues(values) {
-  const targets = deadLetterQueues(values);
-  const others = values.filter(queue => !targets.has(queue.queue) || queue.sent || queue.came_by_forward);
+// Whether an actor may send to its queue; of a script in a file that is not known.
+function maySend(actor) {
+  const kind = said(actor, 'kind'), calls = said(actor, 'calls');
+  return kind === 'producer' || kind === 'script' && (typeof calls !== 'string' || /^"?\d+"?,"?send\b/m.test(calls));
+}
+
+// The queues of a scenario that only dead letters may come to: nobody sends to them, and nothing is forwarded there.
+function forDeadLetters(scenario) {
+  const actors = scenario.items('actor'), names = (items, key) => items.map(item => said(item, key));
+  const others = new Set([...names(actors.filter(maySend), 'queue'), ...names(actors, 'forward'),
+    ...names(scenario.items('task'), 'to')]);
+  return names(scenario.items('queue'), 'dead_letter').filter(name => name !== undefined && !others.has(name));
+}
+
+// The queues that a reader asks about: all but those that only dead letters may come to, or all if there is no other.
+function mainQueues({ values, forDeadLetters }) {
+  const others = values.filter(({ queue }) => !forDeadLetters.includes(queue));
   return others.length ? others : values;
 }
 
 const inQueues = names => names.length ? `in ${named(names)}` : '';
 
 // The tiles of a run: what each says, its number (null if there is none), how it is written, and a note.
-function tilesOf({ values }) {
-  const queues = mainQueues(values), slowest = greatestBy(queues, 'age_p95_ms');
+function tilesOf(result) {
+  const { values } = result, queues = mainQueues(result), slowest = greatestBy(queues, 'age_p95_ms');
   const deepest = greatestBy(queues, 'depth_greatest');
   const noted = queue => queues.length > 1 && queue ? `in ${queue.queue}` : '';
   return [
@@ -38,8 +51,8 @@ function tilesOf({ values }) {
 const joined = parts => parts.length < 2 ? parts.join('') : `${parts.slice(0, -1).join(', ')} and ${parts.at(-1)}`;
 
 // What came out, in a sentence or two: of the one queue that is asked about, or of all of them together.
-function sentenceOf({ values, last }) {
-  const queues = mainQueues(values), only = queues.length === 1 ? queues[0] : null;
+function sentenceOf(result) {
+  const { values, last } = result, queues = mainQueues(result), only = queues.length === 1 ? queues[0] : null;
   const came = only ? only.came_in : sumOf(queues, 'sent'), slowest = greatestBy(queues, 'age_p95_ms');
   if (!came) return `In ${duration(last ?? 0)}, no message came in.`;
   const targets = [...deadLetterQueues(values)].sort(), dead = sumOf(values, 'dead_lettered');
@@ -55,23 +68,39 @@ function sentenceOf({ values, last }) {
   return `In ${duration(last ?? 0)}, ${begin}${parts.length ? `: ${joined(parts)}` : ''}.${ages}`;
 }
 
-// The tile of a number, with what it was before or in the other variant. Less is better in each.
-function tileOf({ label, number, written, note }, before) {
+// What a tile says of other seeds, whose words are left out where there is no place for them.
+function spreadTold(range, text, count) {
+  if (!range) return [];
+  const [least, middle, greatest] = range.map(text);
+  const wide = words => element('span', { className: 'wide', textContent: words });
+  return least === greatest ? ['same', wide(` in ${count} seeds`)]
+    : [`${least} to ${greatest}`, wide(`, middle ${middle}, in ${count} seeds`)];
+}
+
+// The tile of a number, with what it was before or in the other variant, its range over seeds, and whether it is more
+// than what is required. Less is better in each.
+function tileOf({ label, number, written, note }, before, told, isBroken) {
   const text = value => value === null || value === undefined ? 'none' : written(value);
   const isOther = before && text(before.number) !== text(number);
   const sign = !isOther || before.number === null || number === null ? ''
     : number < before.number ? 'better' : 'worse';
-  return element('div', { className: `tile ${sign}` }, element('span', { className: 'label', textContent: label }),
-    element('strong', { textContent: text(number) }),
-    element('span', { className: 'was', textContent: !isOther ? '' : `${{ better: '↓ ', worse: '↑ ' }[sign] ?? ''}from `
-      + text(before.number) }), element('span', { className: 'of', textContent: note }));
+  return element('div', { className: `tile ${sign} ${isBroken ? 'broken' : ''}` },
+    element('span', { className: 'label' }, label,
+      note ? element('span', { className: 'of', textContent: ` ${note}` }) : ''),
+    element('strong', { textContent: text(number) }), element('span', { className: 'was', textContent: !isOther ? ''
+      : `${{ better: '↓ ', worse: '↑ ' }[sign] ?? ''}from ${text(before.number)}` }),
+    element('span', { className: 'spread-of' }, ...told(text)));
 }
 
-// Shows the answer of one variant, with what its tiles were before a slider moved, or of two: from A to B.
-function showAnswer(sides, before) {
-  const shown = sides.at(-1).result, tiles = tilesOf(shown);
+// Shows the answer of one variant, with what its tiles were before a slider moved, or of two: from A to B. Gives its
+// tiles.
+function showAnswer(sides, before, require) {
+  const side = sides.at(-1), tiles = tilesOf(side.result), { spread } = side;
   const from = sides.length > 1 ? tilesOf(sides[0].result) : before;
-  setText(byId('answer'), `${sides.length > 1 ? `${sides.at(-1).name}: ` : ''}${sentenceOf(shown)}`);
-  byId('tiles').replaceChildren(...tiles.map((tile, i) => tileOf(tile, from?.[i])));
+  setText(byId('answer'), `${sides.length > 1 ? `${side.name}: ` : ''}${sentenceOf(side.result)}`);
+  byId('tiles').replaceChildren(...tiles.map((tile, i) => tileOf(tile, from?.[i],
+    text => spread ? spreadTold(spread.rangeOf(i), text, spread.count) : [], require.isBroken(i, tile.number))));
+  require.name(tiles);
+  require.tell(tiles, spread);
   return tiles;
 }

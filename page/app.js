@@ -15,8 +15,14 @@ let sliding = null, before = null, tiles = null;
 let isKept = false;
 
 const editor = new Editor(text => edited(text, 'typed'));
-const numbers = new NumberPanel(changeNumber);
-const pictures = new Pictures(() => {});
+const numbers = new NumberPanel(changeNumber, slider => { if (active.isDone) curve.begin(slider, active); });
+const require = new Requirement(() => showAgain());
+const pictures = new Pictures(require);
+const curve = new Curve(require, (slider, value) => slider.choose(value));
+const seeds = new Seeds(() => {
+  showAgain();
+  count('spread');
+});
 const log = new LogView();
 
 // A change of the text of the variant that is edited: it runs at once if the last run was quick.
@@ -58,19 +64,34 @@ function showNumbers(isFresh) {
   else numbers.clear();
 }
 
-// A slider has been moved. Of a pair of bounds the other one goes along, so that the first is not above the second.
-function changeNumber(place, node, value) {
-  if (sliding !== place) [sliding, before] = [place, tiles];
-  editor.replace(node.from, node.to, String(value));
-  const pair = /_min_ms$/.test(place) ? place.replace(/_min_ms$/, '_max_ms') : place.replace(/_max_ms$/, '_min_ms');
-  if (pair !== place) {
-    const other = nodeAt(new Scenario(editor.text), pair), isLow = place.endsWith('_min_ms');
-    if (other && (isLow ? Number(other.value) < value : Number(other.value) > value)) {
-      editor.replace(other.from, other.to, String(value));
-    }
-  }
+// A slider has been moved: the numbers at these places get a value. Of a pair of bounds the other one goes along, so that
+// the first is not above the second.
+function changeNumber(places, value) {
+  const slider = places.join();
+  if (sliding !== slider) [sliding, before] = [slider, tiles];
+  editor.put(withValue(editor.text, places, value));
   numbers.show(new Scenario(editor.text), false);
   edited(editor.text, 'slid');
+}
+
+// The text with a value at these places, and where it has to be at the other one of a pair of bounds.
+function withValue(text, places, value) {
+  const scenario = new Scenario(text), values = new Map(places.map(place => [place, value]));
+  for (const place of places) {
+    const isLow = place.endsWith('_min_ms');
+    const pair = isLow ? place.replace(/_min_ms$/, '_max_ms') : place.replace(/_max_ms$/, '_min_ms');
+    const other = pair === place ? null : nodeAt(scenario, pair);
+    if (other && (isLow ? Number(other.value) < value : Number(other.value) > value)) values.set(pair, value);
+  }
+  return withNumbers(text, values);
+}
+
+// The text with numbers at their places.
+function withNumbers(text, values) {
+  const scenario = new Scenario(text);
+  const edits = [...values].map(([place, value]) => [nodeAt(scenario, place), value]).filter(([node]) => node)
+    .sort(([a], [b]) => b.from - a.from);
+  return edits.reduce((made, [{ from, to }, value]) => `${made.slice(0, from)}${value}${made.slice(to)}`, text);
 }
 
 function nodeAt(scenario, place) {
@@ -84,7 +105,9 @@ function placesIn(text) {
   const scenario = new Scenario(text), found = new Map();
   const take = (table, title) => {
     for (const [key, node] of table.value) {
-      if (!['table', 'list'].includes(node.type)) found.set(`${key}${title}`, String(node.value));
+      if (['table', 'list'].includes(node.type)) continue;
+      found.set(`${key}${title}`, node.type === 'integer' && node.value < 2n ** 53n ? written(key, Number(node.value))
+        : String(node.value));
     }
   };
   take(scenario.top, '');
@@ -117,6 +140,7 @@ function tellDifference() {
 // What is shown as a run begins or ends.
 function changed(side) {
   byId('stop').disabled = !sides.some(it => it.isRunning);
+  seeds.stop();
   if (side.isRunning) {
     setText(byId('waits'), '');
     setStale(true);
@@ -130,7 +154,7 @@ function changed(side) {
 
 // Greys what is shown, if it is not what comes out of the text.
 function setStale(isStale) {
-  for (const id of ['results', 'answer', 'tiles']) byId(id).classList.toggle('stale', isStale);
+  for (const id of ['results', 'more-outputs', 'answer', 'tiles']) byId(id).classList.toggle('stale', isStale);
 }
 
 function tickWhileRunning() {
@@ -159,7 +183,10 @@ function showFault() {
   if (place) {
     const [line] = fault.scenario.lineAndColumn(place[0]);
     parts.push(element('button', { type: 'button', textContent: `Go to line ${line}`,
-      onclick: () => editor.goTo(...place) }));
+      onclick: () => {
+        showText(true);
+        editor.goTo(...place);
+      } }));
   }
   box.replaceChildren(...parts);
 }
@@ -173,9 +200,10 @@ async function showAll() {
   const loss = lossOf(done);
   byId('loss').hidden = !loss;
   setText(byId('loss'), loss && loss[0].toUpperCase() + loss.slice(1));
-  byId('results').hidden = false;
+  byId('results').hidden = byId('more-outputs').hidden = false;
   clearTimeout(settling);
-  tiles = showAnswer(done, before);
+  tiles = showAnswer(done, before, require);
+  curve.draw();
   showTables(done);
   byId('differences').hidden = done.length < 2;
   await pictures.show(done);
@@ -187,7 +215,21 @@ async function settle() {
   if (!sides.every(side => side.isDone && !side.isRunning)) return;
   showLog();
   await showLink();
-  document.body.dataset.shown = String(Number(document.body.dataset.shown ?? 0) + 1);
+  seeds.begin([...sides], pictures.spreadQuestion);
+  count('shown');
+}
+
+// Shows what came out once more, as with other seeds or by another requirement.
+function showAgain() {
+  curve.draw();
+  if (!sides.every(side => side.isDone && !side.isRunning)) return;
+  showAnswer(sides, before, require);
+  pictures.show(sides);
+}
+
+// Counts what has been shown, for those who wait for it.
+function count(what) {
+  document.body.dataset[what] = String(Number(document.body.dataset[what] ?? 0) + 1);
 }
 
 function statusOf(refused) {
@@ -241,8 +283,9 @@ async function copyLink() {
 }
 
 // Opens texts, as variant A or as A and B, with script files for both, and runs them.
-function open(texts, files = []) {
+function open(texts, files = [], example = null) {
   releaseLink();
+  showAsked(example);
   put(texts, files);
   runAlone(...sides);
 }
@@ -252,6 +295,7 @@ function put(texts, files) {
   for (const side of sides) side.stop('');
   clearTimeout(timer);
   sides = texts.map((text, i) => Object.assign(new Side('AB'[i], changed), { text, files }));
+  curve.close();
   edit(sides.at(-1));
   pictures.zoom = null;
   [sliding, before] = [null, null];
@@ -356,44 +400,93 @@ function keep(name) {
   else runAlone(kept);
 }
 
-// The examples by the questions that they answer: as a list, and as cards with a button for each.
-function showExamples() {
-  const groups = new Map();
-  for (const [number, example] of EXAMPLES.entries()) {
-    if (!groups.has(example.question)) groups.set(example.question, []);
-    groups.get(example.question).push({ number, ...example });
-  }
+// The questions as cards, each of which opens the first of its examples.
+function showQuestions() {
   // on a narrow screen the cards would hide what comes out
-  const isNarrow = matchMedia('(max-width: 1199px)').matches;
-  byId('questions').open = !isNarrow;
-  const choose = number => {
-    byId('example').value = String(number);
-    byId('questions').open &&= !isNarrow;
-    byId('open').click();
-  };
-  for (const [question, examples] of groups) {
-    byId('example').append(element('optgroup', { label: question }, ...examples.map(({ number, answer }) =>
-      element('option', { value: number, textContent: answer }))));
-    byId('cards').append(element('div', { className: 'question' }, element('strong', { textContent: question }),
-      ...examples.map(({ number, name, answer }) => element('button', { type: 'button', textContent: titleOf(name),
-        title: answer, 'aria-label': `${question} ${answer}`, onclick: () => choose(number) }))));
+  byId('questions').open = !matchMedia('(max-width: 1199px)').matches;
+  byId('cards').replaceChildren(...[...new Set(EXAMPLES.map(({ question }) => question))].map(question => {
+    const number = EXAMPLES.findIndex(example => example.question === question), { version } = EXAMPLES[number];
+    return element('button', { type: 'button', className: 'question', onclick: () => openExample(number) },
+      question, version > 2 ? element('span', { className: 'mark', textContent: `version ${version}` }) : '');
+  }));
+}
+
+// Opens an example, and shows the question that it is about.
+function openExample(number) {
+  if (matchMedia('(max-width: 1199px)').matches) byId('questions').open = false;
+  open([EXAMPLES[number].text], [], number);
+}
+
+// Shows the question of an example with a button for each of its variants; null is no example.
+function showAsked(number) {
+  const asked = EXAMPLES[number] ?? null;
+  byId('asked').hidden = !asked;
+  numbers.ask(asked?.varies ?? []);
+  for (const card of byId('cards').children) {
+    card.setAttribute('aria-pressed', String(asked !== null && card.firstChild.data === asked.question));
   }
+  if (!asked) return;
+  setText(byId('asked-title'), asked.question);
+  const variants = [...EXAMPLES.entries()].filter(([, { question }]) => question === asked.question);
+  byId('asked-variants').replaceChildren(...variants.map(([i, { name, answer }]) => element('button', { type: 'button',
+    textContent: titleOf(name), title: answer, 'aria-pressed': String(i === number), onclick: () => openExample(i) })));
+  const keys = [...new Set(numbers.firstOf(numbers.numbersIn(new Scenario(asked.text))).map(({ key }) => key.name))];
+  setText(byId('asked-note'), asked.answer + (keys.length ? ` Try: ${keys.join(', ')}.` : ''));
+}
+
+// Shows the text of the scenario, or folds it away.
+function showText(isShown) {
+  byId('drawer').hidden = !isShown;
+  // what is wrong is told beside the text, or on top
+  (isShown ? byId('drawer') : byId('first-inputs')).prepend(byId('fault'));
+  byId('show-text').setAttribute('aria-expanded', String(isShown));
+  document.body.classList.toggle('with-text', isShown);
+  keepChoice('text', isShown ? 'shown' : 'hidden');
 }
 
 const titleOf = name => name.replace(/[.]toml$/, '').replaceAll('_', ' ');
 
-async function start() {
-  showExamples();
-  const first = EXAMPLES.findIndex(({ name }) => name === DATA.first);
-  byId('example').value = String(first);
-  if (!await openLink()) open([EXAMPLES[first].text]);
+// Keeps the tiles, and the inputs as far as they fit, in view as the page scrolls: the lower end of inputs that are
+// longer than the window comes into view with the page, so that there is one scroll bar alone.
+function keepInView() {
+  const tall = byId('tiles').offsetHeight, { style } = document.documentElement;
+  style.setProperty('--tiles', `${tall}px`);
+  style.setProperty('--inputs', `${Math.min(tall + 8, innerHeight - byId('inputs').offsetHeight)}px`);
 }
 
-byId('open').onclick = () => open([EXAMPLES[byId('example').value].text]);
+async function start() {
+  showQuestions();
+  showText(kept('text') === 'shown');
+  const first = EXAMPLES.findIndex(({ folder, name }) => `${folder}/${name}` === DATA.first);
+  if (!await openLink()) openExample(first);
+}
+
+const sizes = new ResizeObserver(keepInView);
+for (const id of ['tiles', 'inputs']) sizes.observe(byId(id));
+window.addEventListener('resize', keepInView);
+byId('show-text').onclick = () => {
+  showText(byId('drawer').hidden);
+  if (!byId('drawer').hidden) editor.open(editor.text);
+};
 byId('file').onchange = async ({ target }) => {
   if (target.files.length) await openFiles([...target.files]);
   target.value = '';
 };
+// Files that are dropped anywhere open as those that are chosen, and so does a text that is pasted beside all fields.
+document.addEventListener('dragover', event => {
+  if (event.dataTransfer.types.includes('Files')) event.preventDefault();
+});
+document.addEventListener('drop', async event => {
+  const files = [...event.dataTransfer.files];
+  if (!files.length) return;
+  event.preventDefault();
+  await openFiles(files);
+});
+document.addEventListener('paste', event => {
+  if (/^(INPUT|TEXTAREA)$/.test(document.activeElement?.tagName)) return;
+  const text = event.clipboardData.getData('text/plain');
+  if (text.trim()) open([text]);
+});
 // What a change has put off does not begin, or end, what is asked for here.
 byId('run').onclick = () => {
   clearTimeout(timer);

@@ -65,6 +65,15 @@ class Editor {
     this.draw();
   }
 
+  // Puts another text in the place of all that differs, so that one step back takes it away.
+  put(text) {
+    const old = this.text, most = Math.min(old.length, text.length);
+    let from = 0, behind = 0;
+    while (from < most && old[from] === text[from]) from++;
+    while (behind < most - from && old[old.length - 1 - behind] === text[text.length - 1 - behind]) behind++;
+    this.replace(from, old.length - behind, text.slice(from, text.length - behind));
+  }
+
   // Marks a part of the text as faulty; null marks nothing.
   markFault(place) {
     this.mark = place;

@@ -1,29 +1,82 @@
-// A slider and a field for each number of the scenario. The page has this file.
+// A slider and a field for each number of the scenario. The page has this file. Numbers are in words, as 400 ms, 10 min
+// and 5 %. A slider goes over all that its key may have, in round steps.
 
 const NUMBERS_MOST = 80;
+// The values of a slider that are tried lie within so many of its stops.
+const NEAR_STOPS = 13;
+// Longer ranges than this are gone through in round numbers, and not one by one.
+const ONE_BY_ONE = 60;
+// So many groups of numbers are open at first, where no question says which numbers matter first.
+const OPEN_FIRST = 3;
+// The milliseconds of each unit of a time, with the round numbers of it.
+const TIME_STEPS = [[1, []], [1e3, [1, 1.5, 2, 2.5, 3, 4, 5, 6, 8, 10, 12, 15, 20, 25, 30, 40, 45, 50]],
+  [6e4, [1, 1.5, 2, 2.5, 3, 4, 5, 6, 8, 10, 12, 15, 20, 25, 30, 40, 45, 50]],
+  [36e5, [1, 1.5, 2, 3, 4, 5, 6, 8, 10, 12, 16, 20]], [864e5, [1, 1.5, 2, 3, 4, 5, 6, 7, 10, 14, 21, 30]]];
+const ROUND = [1, 1.2, 1.5, 2, 2.5, 3, 4, 5, 6, 8];
+const TIME_NAMES = [[864e5, 'days'], [36e5, 'h'], [6e4, 'min'], [1e3, 's']];
 
-// The steps and ends of a slider for a number: from its least to four times what it was.
-function spanOf(key, value) {
-  const far = value === 0 ? 1000 : Math.max(20, 4 * value);
-  const high = Math.max(value, Math.min(key.high, far)), step = Math.max(1, niceStep(high - key.low || 1, 200));
-  const low = key.low + (value - key.low) % step;
-  return { low, high: low + Math.floor((high - low) / step) * step, step };
+// The milliseconds of 1 in a number of a key; 0 of one that is no time.
+const unitOf = name => name === 'horizon' || name === 'sample' || name.endsWith('_ms') ? 1
+  : name.endsWith('_s') ? 1000 : 0;
+
+// A number of a key in words, with nothing left out.
+function written(name, value) {
+  if (name.endsWith('_permille')) return `${value / 10} %`;
+  const time = value * unitOf(name);
+  if (!unitOf(name)) return grouped(value);
+  const found = TIME_NAMES.find(([size]) => time >= size && (time % size === 0 || size === 1e3 && time % 10 === 0));
+  if (!found) return name.endsWith('_s') ? `${grouped(value)} s` : `${grouped(value)} ms`;
+  const [size, unit] = found;
+  return `${grouped(time / size)} ${time === 864e5 ? 'day' : unit}`;
 }
 
-// A time behind a number that has a unit, where it is easier to read.
-function readable(name, value) {
-  const unit = name === 'horizon' || name === 'sample' || name.endsWith('_ms') ? 1 : name.endsWith('_s') ? 1000 : 0;
-  if (name.endsWith('_permille')) return `${value / 10} %`;
-  return unit && value * unit >= 1000 && (unit === 1 || value >= 60) ? duration(value * unit) : '';
+// The number of a key that a text means, as 10 min, 1.5s, 5 %, or without a unit in that of the key; NaN if none.
+function meant(name, text) {
+  const plain = text.replaceAll(',', '').trim(), isShare = name.endsWith('_permille');
+  if (/^\d{1,16}$/.test(plain)) return Number(plain) * (isShare ? 10 : 1);
+  if (isShare) return /^\d{1,3}(\.\d)? ?%?$/.test(plain) ? Math.round(parseFloat(plain) * 10) : NaN;
+  const time = unitOf(name) ? momentOf(plain.replace(/ ?days?$/, 'd')) : null;
+  return time === null || time % unitOf(name) ? NaN : time / unitOf(name);
+}
+
+// The numbers on which a slider for a key stops: those of its range that are round.
+function stopsOf(key) {
+  const unit = unitOf(key.name), low = key.low, high = Math.min(key.high, 2 ** 53);
+  if (high - low <= ONE_BY_ONE) return Array.from({ length: high - low + 1 }, (_, i) => low + i);
+  const stops = [low, ...Array.from({ length: 10 }, (_, i) => i + 1)];
+  for (let power = 10; power <= (unit ? 100 : high); power *= 10) stops.push(...ROUND.map(digit => digit * power));
+  if (unit) for (const [size, steps] of TIME_STEPS) stops.push(...steps.map(step => step * size / unit));
+  // past a minute, seconds are whole minutes
+  const isRound = stop => unit !== 1000 || stop <= 50 || stop % 60 === 0;
+  return ascending([...stops.filter(stop => Number.isInteger(stop) && stop >= low && stop <= high && isRound(stop)), high]);
+}
+
+const ascending = numbers => [...new Set(numbers)].sort((a, b) => a - b);
+
+// Whether a path, as `actor.mailer-*.wait_s` of the command line of `sweep`, names a number of a table.
+function isNamed(path, of, name, key) {
+  const [, ofPath, glob, last] = /^([a-z]+)\.(.+)\.([a-z_]+)$/.exec(path) ?? [];
+  if (ofPath !== of || last !== key) return false;
+  const pattern = glob.split('*').map(part => part.replace(/[^\w-]/g, '\\$&')).join('.*');
+  return new RegExp(`^${pattern}$`).test(String(name));
 }
 
 class NumberPanel {
-  // `changed` is called with the place in the text of a number, its end, and the new number.
-  constructor(changed) {
-    this.box = byId('numbers');
-    this.changed = changed;
-    this.rows = new Map();
+  // `changed` is called with the places in the text of the numbers that a slider has, and their new value, and `tried`
+  // with the slider whose numbers are to be tried one after the other.
+  constructor(changed, tried) {
+    Object.assign(this, { changed, tried, box: byId('numbers'), first: byId('first-numbers') });
+    this.sliders = [];
     this.shape = '';
+    this.paths = [];
+    this.isOpen = new Map();
+  }
+
+  // The numbers that the question is about, by their paths. They stand before all others.
+  ask(paths) {
+    this.paths = paths;
+    this.shape = '';
+    this.isOpen.clear();
   }
 
   // Shows the numbers of a text. If it is no TOML for now, those before stay.
@@ -33,7 +86,8 @@ class NumberPanel {
     const shape = JSON.stringify(numbers.map(({ place, title }) => [place, title]));
     if (isFresh || shape !== this.shape) this.build(numbers, all.length);
     this.shape = shape;
-    for (const { place, node } of numbers) this.rows.get(place).take(node);
+    const values = new Map(numbers.map(({ place, node }) => [place, Number(node.value)]));
+    for (const slider of this.sliders) slider.take(values.get(slider.places[0]));
   }
 
   // Shows none, as of a text that is long.
@@ -50,64 +104,136 @@ class NumberPanel {
         const node = table.value.get(key.name);
         const is = key.kind === NUMBER && node?.type === 'integer' && key.name !== 'version';
         if (is && node.value >= 0n && node.value <= 2n ** 53n) {
-          found.push({ place: prefix + key.name, title, key, node });
+          found.push({ place: prefix + key.name, of, name: said(table, 'name'), title, key, node });
         }
       }
     };
-    look(scenario.top, '', '', 'run');
     for (const of of ['queue', 'actor', 'task']) {
       scenario.items(of).forEach((item, i) => {
         const kind = of === 'actor' ? said(item, 'kind') : of;
         if (item.type === 'table') look(item, `${of}[${i}].`, of, `${kind} ${said(item, 'name') ?? i + 1}`);
       });
     }
+    look(scenario.top, '', '', 'run');
     return found;
   }
 
   build(numbers, count) {
-    this.rows.clear();
+    const first = this.firstOf(numbers);
     const groups = new Map();
     for (const number of numbers) {
+      if (first.some(({ places }) => places.length === 1 && places[0] === number.place)) continue;
       if (!groups.has(number.title)) groups.set(number.title, []);
-      groups.get(number.title).push(this.rowOf(number));
+      groups.get(number.title).push(this.sliderOf([number]));
     }
-    const sets = [...groups].map(([title, rows]) => element('fieldset', {}, element('legend', { textContent: title }),
-      ...rows));
+    this.sliders = [...first, ...[...groups.values()].flat()];
+    this.first.replaceChildren(...first.map(slider => slider.box));
     const more = count > numbers.length ? [element('p', { className: 'note', textContent:
       `The first ${numbers.length} of ${grouped(count)} numbers have a slider; change the others in the text.` })] : [];
-    this.box.replaceChildren(...sets, ...more);
+    this.box.replaceChildren(...[...groups].map(([title, sliders], i) =>
+      this.groupOf(title, sliders, !first.length && i < OPEN_FIRST)), ...more);
   }
 
-  rowOf({ place, title, key, node }) {
-    const { low, high, step } = spanOf(key, Number(node.value)), id = `number-${place}`;
-    const about = `${key.about}${rangeText(key)}`;
-    const range = element('input', { type: 'range', min: low, max: high, step, id, title: about,
-      'aria-label': `${key.name} of ${title}` });
-    const field = element('input', { type: 'number', min: key.low, max: key.high, step: 1, title: about,
-      'aria-label': `${key.name} of ${title}, as a number` });
-    const note = element('span', { className: 'readable' });
-    const show = value => {
-      const text = readable(key.name, value);
-      setText(note, text);
-      range.setAttribute('aria-valuetext', text || String(value));
-    };
-    let current = node;
-    const set = value => {
-      if (!Number.isInteger(value) || value < key.low || value > key.high) return;
-      show(value);
-      this.changed(place, current, value);
-    };
-    range.oninput = () => { field.value = range.value; set(Number(range.value)); };
-    field.oninput = () => { range.value = field.value; set(field.value === '' ? NaN : Number(field.value)); };
-    this.rows.set(place, { take: taken => {
-      current = taken;
-      const value = Number(taken.value);
-      if (document.activeElement !== range && document.activeElement !== field || Number(field.value) !== value) {
-        range.value = field.value = value;
-      }
-      show(value);
-    } });
-    const label = element('label', { for: id, textContent: key.name, title: about });
-    return element('div', { className: 'number-row' }, label, range, field, note);
+  // The sliders that the question is about. A path that names nothing more than those before it has none.
+  firstOf(numbers) {
+    const taken = new Set(), sliders = [];
+    for (const path of this.paths) {
+      const all = numbers.filter(({ of, name, key }) => isNamed(path, of, name, key.name));
+      if (all.some(({ place }) => !taken.has(place))) sliders.push(this.sliderOf(all, path));
+      for (const { place } of all) taken.add(place);
+    }
+    return sliders;
+  }
+
+  // The sliders of one table, under its name, which opens and closes them.
+  groupOf(title, sliders, isOpen) {
+    const group = element('details', { className: 'group', open: this.isOpen.get(title) ?? isOpen },
+      element('summary', { textContent: title }), ...sliders.map(slider => slider.box));
+    group.ontoggle = () => this.isOpen.set(title, group.open);
+    return group;
+  }
+
+  sliderOf(numbers, path) {
+    const places = numbers.map(({ place }) => place), { key, title, name } = numbers[0];
+    const of = !path ? '' : places.length > 1 ? path.split('.').slice(1, -1).join('.') : name;
+    return new Slider(key, places, of, of || title, value => this.changed(places, value), this.tried);
+  }
+}
+
+// A slider with its field, for one number or for several that are to be the same.
+class Slider {
+  constructor(key, places, of, title, changed, tried) {
+    Object.assign(this, { key, places, of, title, changed, value: null });
+    this.base = this.stops = stopsOf(key);
+    const about = `${key.about}${rangeText(key)}`, id = `number-${of}-${places[0]}`;
+    this.range = element('input', { type: 'range', min: 0, step: 1, id, title: about,
+      'aria-label': `${key.name} of ${title}`, oninput: () => this.slid() });
+    this.field = element('input', { type: 'text', className: 'value', title: about, autocomplete: 'off',
+      spellcheck: false, 'aria-label': `${key.name} of ${title}, as a number`, oninput: () => this.typed(),
+      onchange: () => this.show() });
+    const label = element('label', { for: id, title: about }, element('code', { textContent: key.name }),
+      of ? ` of ${of}` : '', key.since > 2 ? element('span', { className: 'mark', textContent: 'version 3' }) : '');
+    const curve = element('button', { type: 'button', className: 'try', textContent: 'try 10', onclick: () => tried(this),
+      title: 'Try 10 values of this number, and draw what comes out',
+      'aria-label': `Try 10 values of ${key.name} of ${title}` });
+    const ends = [written(key.name, key.low), key.high > 2 ** 53 ? '…' : written(key.name, key.high)];
+    const [low, high] = ends.map(textContent => element('span', { textContent }));
+    this.box = element('div', { className: 'number-row' }, label, this.field, curve,
+      element('div', { className: 'reach' }, low, this.range, high));
+  }
+
+  slid() {
+    this.value = this.stops[Number(this.range.value)];
+    this.show();
+    this.changed(this.value);
+  }
+
+  typed() {
+    const value = meant(this.key.name, this.field.value), { low, high } = this.key;
+    const isRight = Number.isInteger(value) && value >= low && value <= high;
+    this.field.setAttribute('aria-invalid', String(!isRight));
+    if (!isRight || value === this.value) return;
+    this.value = value;
+    this.place();
+    this.changed(value);
+  }
+
+  // Takes a value as if it had been slid to.
+  choose(value) {
+    this.value = value;
+    this.place();
+    this.show();
+    this.changed(value);
+  }
+
+  // Takes the number of the text.
+  take(value) {
+    if (value === undefined || value === this.value) return;
+    this.value = value;
+    this.place();
+    if (document.activeElement !== this.field) this.show();
+  }
+
+  // Puts the slider where its number is. A number that is not round is a stop as long as it is there.
+  place() {
+    this.stops = this.base.includes(this.value) ? this.base : ascending([...this.base, this.value]);
+    this.range.max = this.stops.length - 1;
+    this.range.value = this.stops.indexOf(this.value);
+    this.range.setAttribute('aria-valuetext', written(this.key.name, this.value));
+  }
+
+  show() {
+    const text = written(this.key.name, this.value);
+    this.field.value = text;
+    this.field.setAttribute('aria-invalid', 'false');
+    this.range.setAttribute('aria-valuetext', text);
+  }
+
+  // Ten of its stops around its number, which is one of them.
+  tenValues() {
+    const at = this.stops.indexOf(this.value), span = Math.min(this.stops.length - 1, NEAR_STOPS);
+    const from = Math.max(0, Math.min(at - Math.floor(span / 2), this.stops.length - 1 - span));
+    const values = Array.from({ length: 10 }, (_, i) => this.stops[from + Math.round(i * span / 9)]);
+    return ascending([...values.filter(value => value !== this.value).slice(0, 10), this.value]);
   }
 }

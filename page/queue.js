@@ -15,10 +15,6 @@ const leading = age => {
   return age >= 2 ** 32 ? age : (age >>> shift) * 2 ** shift;
 };
 
-// The nearest rank among ages in ascending order; null if there are none.
-const nearestRank = (ages, percent) =>
-  ages.length ? ages[Math.ceil(ages.length * percent / 100) - 1] : null;
-
 class Queue {
   constructor(name, number, run) {
     Object.assign(this, { name, number, run });

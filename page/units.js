@@ -52,6 +52,10 @@ function momentOf(text) {
   return found ? Math.round(Number(found[1]) * (found[2] ? units[found[2]] : 1)) : null;
 }
 
+// The nearest rank among numbers in ascending order; null if there are none.
+const nearestRank = (numbers, percent) =>
+  numbers.length ? numbers[Math.ceil(numbers.length * percent / 100) - 1] : null;
+
 // The units of times on an axis, each with its milliseconds and how many of it a span has at least.
 const AXIS_UNITS = [['days', 864e5, 3], ['h', 36e5, 3], ['min', 6e4, 3], ['s', 1e3, 1], ['ms', 1, 0]];
 const AXIS_STEPS = { s: [10, 15, 20, 30], min: [10, 15, 20, 30], h: [3, 6, 12, 24, 48] };

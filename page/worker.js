@@ -1,6 +1,7 @@
 // The worker: runs a scenario in an instance of the module of its own, and tells what came out. It is given messages
-// { id, module }, { id, text, files }, { id, texts, files } for a comparison, and { id, over }, and answers each with
-// { id, ... }. A text may be its bytes; the script files are a list of { name, bytes }.
+// { id, module }, { id, text, files }, { id, texts, files } for a comparison, { id, over } for what the last run tells
+// over time, and { id, text, files, over } for that of a run of which no row is wanted. It answers each with { id, ... }.
+// A text may be its bytes; the script files are a list of { name, bytes }.
 
 // The codes of crates/sqs_page; the others are refusals.
 const DONE = 0, NO_ROOM = 2, NO_MEMORY = 3, NO_LINE = 4, NO_FILES = 5, SECOND_REFUSED = 6;
@@ -91,6 +92,10 @@ async function answerTo({ module, text, texts, files = [], over }) {
     return {};
   }
   if (texts) return compare(texts, files);
+  if (text !== undefined && over) {
+    const { code, values, last: lasts } = await run(text, files);
+    return code === DONE ? { code, values, last: lasts, queues: overTime(last, over.names, over) } : { code };
+  }
   return over ? { queues: last ? overTime(last, over.names, over) : [] } : run(text, files);
 }
 

@@ -2,6 +2,7 @@
 Debian has no driver of selenium for it. tests/page imports this; it is not a command."""
 from __future__ import annotations
 
+import base64
 import json
 import os
 import shutil
@@ -37,7 +38,7 @@ class Firefox:
         with open(os.path.join(folder, "user.js"), "w", encoding="utf-8") as file:
             file.write("".join(preferences))
         self.number = 0
-        words = [self.name, "--headless", "--marionette", "--no-remote", "--profile", folder]
+        words = [self.name, "--headless", "--marionette", "--remote-allow-system-access", "--no-remote", "--profile", folder]
         self.process = subprocess.Popen(words, stdin=subprocess.DEVNULL, stdout=subprocess.DEVNULL,
                                         stderr=subprocess.DEVNULL, env={**os.environ, "HOME": folder})
         self.socket = socket.create_connection(("127.0.0.1", self.port_in(folder)), ANSWER_SECONDS)
@@ -90,6 +91,17 @@ class Firefox:
     def resize(self, width: int, height: int) -> None:
         self.ask("WebDriver:SetWindowRect", {"width": width, "height": height})
 
+    def shot(self) -> bytes:
+        """What is in view, as a PNG."""
+        return base64.b64decode(self.ask("WebDriver:TakeScreenshot", {"full": False})["value"])
+
+    def be_dark(self, is_dark: bool) -> None:
+        """Prefers dark colours, or light ones."""
+        script = "Services.prefs.setIntPref('layout.css.prefers-color-scheme.content-override', arguments[0])"
+        self.ask("Marionette:SetContext", {"value": "chrome"})
+        self.ask("WebDriver:ExecuteScript", {"script": script, "args": [0 if is_dark else 1]})
+        self.ask("Marionette:SetContext", {"value": "content"})
+
     def asked_for(self) -> list[str]:
         """What the page asked for, as far as the page itself can tell."""
         return list(self.run("return performance.getEntriesByType('resource').map(it => it.name)"))
@@ -134,6 +146,15 @@ class Chromium:
         """Makes the page so wide; a window itself is not less than 500 pixels."""
         self.driver.execute_cdp_cmd("Emulation.setDeviceMetricsOverride", {
             "width": width, "height": height, "deviceScaleFactor": 1, "mobile": width < 500})
+
+    def shot(self) -> bytes:
+        """What is in view, as a PNG."""
+        return bytes(self.driver.get_screenshot_as_png())
+
+    def be_dark(self, is_dark: bool) -> None:
+        """Prefers dark colours, or light ones."""
+        features = [{"name": "prefers-color-scheme", "value": "dark" if is_dark else "light"}]
+        self.driver.execute_cdp_cmd("Emulation.setEmulatedMedia", {"features": features})
 
     def asked_for(self) -> list[str]:
         """What was asked for since this was asked last, as the browser tells."""

@@ -4,9 +4,11 @@ import base64
 import binascii
 import gzip
 import hashlib
+import html
 import json
 import os
 import re
+from collections.abc import Iterable
 from typing import Any
 
 import release
@@ -18,11 +20,18 @@ from rehearse_tools.scenarios import parsed
 PARTS = os.path.join(TOP, "page")
 # The scripts of the worker and of the page, in the order in which they need one another.
 WORKER = ("units", "log", "queue", "run", "overtime", "worker")
-PAGE = ("units", "dom", "scenario", "faults", "side", "link", "editor", "numbers", "pictures", "tables",
-        "answer", "log_view", "app")
-FIRST = "dead_letters.toml"
+PAGE = ("units", "dom", "kept", "scenario", "faults", "asker", "side", "link", "editor", "numbers", "figure", "pictures",
+        "tables", "answer", "seeds", "require", "curve", "log_view", "app")
+FIRST = "retries/three_tries.toml"
 TO_BEGIN = "What is a scenario?"
+# What those that list or show the page say of it.
+TITLE = "What will our SQS queues do?"
+ABOUT = ("Change a number and look: a proved simulator plays a network of Amazon SQS queues with its producers and "
+         "consumers. All of it runs in the page.")
+PREVIEW_PICTURE = "preview.png"
 QUESTION = re.compile(r"\]\(examples/([a-z_]+)/README[.]md\)")
+# A number of a queue, an actor or a task that a command line of a README varies.
+VARIED = re.compile(r"--vary '?((?:queue|actor|task)[.][^ =']+[.][a-z_]+)=")
 MODULE = re.compile(rb'<script type="text/plain" id="module">([A-Za-z0-9+/=]*)</script>')
 MARK = re.compile("@([A-Z]+)@")
 # What the page may do: its own script and style, compiled code, and a worker of its own text. Nothing is loaded.
@@ -43,21 +52,42 @@ def module_in(path: str, page: bytes) -> bytes:
         raise Fault(f"{path} is a page whose module cannot be unpacked") from None
 
 
-def examples() -> list[dict[str, str]]:
+def examples() -> list[dict[str, Any]]:
     """The scenarios in examples/ whose version the module reads, each with its folder, the question that this folder's
-    README asks, what it answers by its own first line, and its text. Those of no folder come first, and the others in
-    the order of the questions in the README of the whole.
+    README asks, the numbers that it varies, what the scenario answers by its own first line, its version and its text.
+    Those of no folder come first, and the others in the order of the questions in the README of the whole.
     """
-    found = []
+    found: list[dict[str, Any]] = []
     for folder in ("", *QUESTION.findall(read_text(os.path.join(TOP, "README.md")))):
         place = os.path.join(TOP, "examples", folder)
-        question = first_line(read_text(os.path.join(place, "README.md"))) if folder else TO_BEGIN
-        for name in sorted(name for name in os.listdir(place) if name.endswith(".toml")):
-            text = read_text(os.path.join(place, name))
-            if parsed(text, name).get("version") != PREVIEW:
-                found.append({"folder": folder, "name": name, "question": question,
-                              "answer": first_line(text).removeprefix(f"{question} "), "text": text})
+        readme = read_text(os.path.join(place, "README.md")) if folder else TO_BEGIN
+        question = first_line(readme)
+        texts = {name: read_text(os.path.join(place, name)) for name in sorted(os.listdir(place))
+                 if name.endswith(".toml")}
+        tables = {name: parsed(text, name) for name, text in texts.items()}
+        differ = differing(tables.values()) if folder else []
+        varies = list(dict.fromkeys([*VARIED.findall(readme), *differ]))
+        found += [{"folder": folder, "name": name, "question": question, "varies": varies, "text": text,
+                   "answer": first_line(text).removeprefix(question).strip(), "version": tables[name]["version"]}
+                  for name, text in sorted(texts.items(), key=lambda it: [
+                      numbers_of(tables[it[0]]).get(path, -1) for path in varies]) if tables[name]["version"] != PREVIEW]
     return found
+
+
+def numbers_of(scenario: dict[str, Any]) -> dict[str, int]:
+    """The numbers of a scenario, as `sweep` names them. Names that end in a number are taken as one."""
+    return {f"{of}.{re.sub(r'-[0-9]+$', '-*', table['name'])}.{key}": value
+            for of in ("queue", "actor", "task") for table in scenario.get(of, []) for key, value in table.items()
+            if isinstance(value, int) and not isinstance(value, bool)}
+
+
+def differing(scenarios: Iterable[dict[str, Any]]) -> list[str]:
+    """The numbers by which some scenarios differ."""
+    values: dict[str, set[int]] = {}
+    for scenario in scenarios:
+        for path, value in numbers_of(scenario).items():
+            values.setdefault(path, set()).add(value)
+    return [path for path, found in values.items() if len(found) > 1]
 
 
 def first_line(text: str) -> str:
@@ -109,8 +139,16 @@ def sum_of(text: str) -> str:
     return base64.b64encode(hashlib.sha256(text.encode()).digest()).decode()
 
 
-def page_of(module: bytes) -> bytes:
-    """The page with a module in it."""
+def about_site(address: str) -> str:
+    """What the page of a site says of itself to those that list or show it: its picture has to have a whole address."""
+    told = {"og:type": "website", "og:title": TITLE, "og:description": ABOUT, "og:url": address,
+            "og:image": f"{address}{PREVIEW_PICTURE}", "twitter:card": "summary_large_image"}
+    lines = (f'<meta property="{html.escape(name)}" content="{html.escape(value)}">\n' for name, value in told.items())
+    return f'<link rel="canonical" href="{html.escape(address)}">\n{"".join(lines)}'
+
+
+def page_of(module: bytes, address: str | None = None) -> bytes:
+    """The page with a module in it; that of a site with its address, which ends in a slash."""
     data = f"const KEYS={as_json(keys())};\nconst DATA={as_json({'examples': examples(), 'first': FIRST})};\n"
     script = checked(f"\n(() => {{\n'use strict';\n{data}{scripts(PAGE)}}})();\n", "page/")
     style = checked(f"\n{read_text(os.path.join(PARTS, 'page.css'))}", "page/page.css")
@@ -118,6 +156,7 @@ def page_of(module: bytes) -> bytes:
     parts = {"STYLE": style, "SCRIPT": script, "WORKER": checked(f"\n'use strict';\n{scripts(WORKER)}", "page/"),
              "POLICY": POLICY.format(script=sum_of(script), style=sum_of(style)),
              "MODULE": base64.b64encode(release.packed(module)).decode(),
-             "VERSIONS": f"version {version}, module {release.sum_of(module)}"}
+             "VERSIONS": f"version {version}, module {release.sum_of(module)}", "ABOUT": html.escape(ABOUT),
+             "SITE": about_site(address) if address else ""}
     page = MARK.sub(lambda mark: parts[mark[1]], read_text(os.path.join(PARTS, "page.html")))
     return page.encode()

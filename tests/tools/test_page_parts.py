@@ -13,9 +13,11 @@ from tool import LIMIT, ToolCase
 from rehearse_tools.console import read_text
 from rehearse_tools.programs import TOP
 
-PAGE = ("units", "dom", "scenario", "faults", "side", "link", "editor")
+PAGE = ("units", "dom", "scenario", "faults", "asker", "side", "link", "editor")
+SEEDS = ("units", "dom", "scenario", "asker", "figure", "seeds")
 WORKER = ("units", "log", "queue", "run", "overtime", "worker")
-ANSWER = ("units", "dom", "tables", "answer")
+NUMBERS = ("units", "dom", "scenario", "faults", "numbers")
+ANSWER = ("units", "dom", "scenario", "tables", "answer")
 # Refusals that the module does not give: it splits no run, starts no thread, and writes to memory alone.
 NOT_OF_THE_PAGE = ("WindowTooLong", "BadMap", "BadWorkers", "NoWorker", "Write")
 POLLS = """version = 1
@@ -215,7 +217,8 @@ class Parts(ToolCase):
                            depth_greatest=7, depth_greatest_at_ms=5)
         runs = ([orders, failed], [orders, failed, mail], [self.values("q")])
         told = self.asked(ANSWER, """
-            return values[0].map(values => ({ values, last: 598123 })).map(run => [sentenceOf(run), tilesOf(run)
+            const runs = values[0].map(values => ({ values, last: 598123, forDeadLetters: ['failed'] }));
+            return runs.map(run => [sentenceOf(run), tilesOf(run)
               .map(({ label, number, written, note }) => [label, number === null ? null : written(number), note])]);""",
                           runs)
         self.assertEqual([sentence for sentence, _ in told], [
@@ -231,6 +234,117 @@ class Parts(ToolCase):
              ["greatest backlog", "7", "in orders at 1 min 1 s"], ["left at the end", "1", "in orders"]],
             [["dead letters", "0", ""], ["age at 95 %", None, ""], ["handled again", "0", ""],
              ["greatest backlog", "0", ""], ["left at the end", "0", ""]]])
+
+    def test_queues_for_dead_letters(self) -> None:
+        """Only dead letters come to a queue by the scenario, whether one came or not, if nobody sends or forwards to it."""
+        queues = ''.join(f"""[[queue]]
+name = "{name}"
+{f'dead_letter = "{dead}"' if dead else ''}
+""" for name, dead in (("a", "dead"), ("dead", ""), ("b", "again"), ("again", ""), ("c", "next"), ("next", "dead"),
+                       ("d", "moved"), ("moved", ""), ("e", "asked"), ("asked", ""), ("f", "told"), ("told", ""),
+                       ("g", "filed"), ("filed", "")))
+        actors = """[[actor]]
+kind = "producer"
+queue = "again"
+[[actor]]
+kind = "consumer"
+queue = "dead"
+[[actor]]
+kind = "consumer"
+queue = "a"
+forward = "next"
+[[actor]]
+kind = "script"
+queue = "asked"
+calls = """ + "\'\'\'\nat,call,body\n5,receive,\n9,delete,send\n\'\'\'" + """
+[[actor]]
+kind = "script"
+queue = "told"
+calls = "at,call,body\\n5,send,a\\n"
+[[actor]]
+kind = "script"
+queue = "filed"
+script = "calls.csv"
+[[task]]
+queue = "dead"
+to = "moved"
+"""
+        told = self.asked(ANSWER, "return [...new Set(forDeadLetters(new Scenario(values[0])))];", queues + actors)
+        self.assertEqual(told, ["dead", "asked"])
+
+    def test_numbers_in_words(self) -> None:
+        """Each number of a key is in words, from which it is read again; so are others that people write."""
+        written = [["horizon", 600_000, "10 min"], ["gap_min_ms", 400, "400 ms"], ["gap_min_ms", 1_500, "1.5 s"],
+                   ["gap_min_ms", 12_345, "12,345 ms"], ["retention_s", 345_600, "4 days"], ["visibility_s", 90, "90 s"],
+                   ["retention_s", 86_400, "1 day"], ["visibility_s", 0, "0 s"], ["fail_permille", 333, "33.3 %"],
+                   ["count", 1_000_000, "1,000,000"], ["horizon", 5_400_000, "90 min"], ["seed", 7, "7"]]
+        told = self.asked(NUMBERS, """
+            return values[0].map(([name, value]) => [written(name, value), meant(name, written(name, value))]);""", written)
+        self.assertEqual(told, [[text, value] for _, value, text in written])
+        typed = [["visibility_s", "1.5 min", 90], ["visibility_s", "30", 30], ["gap_min_ms", "2s", 2_000],
+                 ["visibility_s", "400 ms", None], ["fail_permille", "20", 200], ["fail_permille", "0.5%", 5],
+                 ["count", "1,5 00", None], ["count", "10 min", None], ["horizon", "2 days", 172_800_000], ["count", "", None]]
+        told = self.asked(NUMBERS, "return values[0].map(([name, text]) => meant(name, text));", typed)
+        self.assertEqual(told, [value for *_, value in typed])
+
+    def test_stops_of_a_slider(self) -> None:
+        """A slider stops at both ends of what its key may have, and at round numbers between them."""
+        keys = [{"name": "batch", "low": 1, "high": 10}, {"name": "visibility_s", "low": 0, "high": 43_200},
+                {"name": "max_receives", "low": 1, "high": 1_000}, {"name": "gap_min_ms", "low": 1, "high": 86_400_000},
+                {"name": "retention_s", "low": 60, "high": 1_209_600}]
+        told = self.asked(NUMBERS, "return values[0].map(stopsOf);", keys)
+        self.assertEqual(told[0], list(range(1, 11)))
+        for key, stops in zip(keys, told, strict=True):
+            self.assertEqual((stops[0], stops[-1]), (key["low"], key["high"]))
+            self.assertEqual(stops, sorted(set(stops)))
+            self.assertTrue(all(isinstance(stop, int) for stop in stops) and len(stops) <= 100, stops)
+        self.assertLessEqual({0, 1, 30, 60, 900, 3_600, 43_200}, set(told[1]))
+        self.assertLessEqual({1, 2, 3, 10, 100, 1_000}, set(told[2]))
+        self.assertLessEqual({1, 100, 400, 1_500, 60_000, 36_000_000}, set(told[3]))
+        self.assertLessEqual({60, 3_600, 345_600, 1_209_600}, set(told[4]))
+
+    def test_named_numbers(self) -> None:
+        """A path of the command line of sweep names the numbers that it names there."""
+        asked = [["queue.orders.visibility_s", "queue", "orders", "visibility_s", True],
+                 ["queue.*.visibility_s", "queue", "orders", "visibility_s", True],
+                 ["actor.mailer-*.wait_s", "actor", "mailer-2", "wait_s", True],
+                 ["actor.mailer-*.wait_s", "actor", "site", "wait_s", False],
+                 ["queue.a.fifo.max_receives", "queue", "a.fifo", "max_receives", True],
+                 ["queue.a.fifo.max_receives", "queue", "abfifo", "max_receives", False],
+                 ["queue.orders.visibility_s", "actor", "orders", "visibility_s", False],
+                 ["queue.orders.visibility_s", "queue", "orders", "delay_s", False]]
+        told = self.asked(NUMBERS, "return values[0].map(it => isNamed(...it));", [it[:-1] for it in asked])
+        self.assertEqual(told, [it[-1] for it in asked])
+
+    def test_other_seeds(self) -> None:
+        """A seed so many behind that of the text, which may have none; the least, the middle and the greatest of numbers."""
+        told = self.asked(SEEDS, """
+            return [[...values[0].map(it => withSeedBehind(...it))], values[1].map(rangeOf)];""",
+                          [["seed = 7\nhorizon = 1\n", 3], ["horizon = 1\n", 2], ["\ufeffhorizon = 1\n", 1], ["seed = 5\n", 0],
+                           ["version = 1\nseed=9223372036854775807 # last\n", 1]],
+                          [[3, 1, 2], [4, 1, 2, 3], [None, 5], [None], [7]])
+        self.assertEqual(told, [["seed = 10\nhorizon = 1\n", "seed = 2\nhorizon = 1\n", "\ufeffseed = 1\nhorizon = 1\n",
+                                 "seed = 5\n", "version = 1\nseed=0 # last\n"],
+                                [[1, 2, 3], [1, 2, 4], [5, 5, 5], None, [7, 7, 7]]])
+
+    def test_site(self) -> None:
+        """A folder for a server has the page, which says what it is, and its picture; both words go together."""
+        page = self.path("public/index.html")
+        words = "--module", os.path.join(TOP, "dist", "playground.html"), "--site", self.path("public")
+        status, out, err = self.run_tool("page", *words, "--address", "https://example.org/a&b/")
+        self.assertEqual((status, err), (0, ""))
+        self.assertIn("index.html of ", out)
+        text = read_text(page)
+        for line in ('<meta property="og:image" content="https://example.org/a&amp;b/preview.png">',
+                     '<link rel="canonical" href="https://example.org/a&amp;b/">', '<meta name="description" content="Change'):
+            self.assertIn(line, text)
+        self.assertLessEqual(os.path.getsize(page), 900_000)
+        with open(self.path("public/preview.png"), "rb") as file:
+            self.assertEqual(file.read(4), b"\x89PNG")
+        for more, line in (((), "--site and --address go together"), (("--address", "example.org"), "is no address of a folder")):
+            status, out, err = self.run_tool("page", *words, *more)
+            self.assertEqual((status, out), (2, ""))
+            self.assertIn(line, err)
 
     def test_out_of_memory(self) -> None:
         """What browsers say when memory is out is shown as that; other errors are not."""

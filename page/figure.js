@@ -1,0 +1,317 @@
+// What is drawn of one queue: its messages in each place, the ages, and what left it for a bad reason. The page has
+// this file.
+
+const LEFT = 52, RIGHT = 10, CAPTION = 16, AXIS = 22;
+const HEIGHTS = { places: 110, ages: 80, counts: 48 };
+// Ages are on a logarithmic axis from this ratio on of the greatest one to that in the middle.
+const LOG_RATIO = 100;
+const LOG_TICKS = [[1, '1 ms'], [10, '10 ms'], [100, '100 ms'], [1e3, '1 s'], [1e4, '10 s'], [6e4, '1 min'],
+  [6e5, '10 min'], [36e5, '1 h'], [36e6, '10 h'], [864e5, '1 day'], [864e6, '10 days']];
+const PLACES = [['visible', 'visible'], ['in-flight', 'in flight'], ['delayed', 'delayed']];
+// The ages that the worker gives, in its order.
+const MIDDLE = 0, MOST_OF_THEM = 1, GREATEST = 2;
+const MISSING = { places: [], ages: [], redrives: [], expiries: [] };
+// A pointer that moves so few pixels drags nothing.
+const DRAG_LEAST = 5;
+
+const greatestOf = numbers => numbers.reduce((most, number) => number > most ? number : most, 0);
+
+// A line through columns of equal width in steps, as the path of an SVG. Where nothing is known there is no line.
+function steps(numbers, x, y) {
+  let path = '', isOpen = false, last = NaN;
+  for (let i = 0; i < numbers.length; i++) {
+    if (Number.isNaN(numbers[i])) {
+      isOpen = false;
+    } else if (!isOpen || numbers[i] !== last) {
+      const height = y(numbers[i]).toFixed(1);
+      path += isOpen ? `H${x(i).toFixed(1)}V${height}` : `M${x(i).toFixed(1)},${height}`;
+      isOpen = true;
+      last = numbers[i];
+    }
+    if (isOpen && (i + 1 === numbers.length || Number.isNaN(numbers[i + 1]))) path += `H${x(i + 1).toFixed(1)}`;
+  }
+  return path;
+}
+
+// The extent from the least to the greatest number of each column, where they differ.
+function bands(least, greatest, x, y) {
+  let path = '';
+  for (let i = 0; i < least.length; i++) {
+    if (greatest[i] > least[i]) {
+      path += `M${x(i).toFixed(1)},${y(least[i]).toFixed(1)}V${y(greatest[i]).toFixed(1)}H${x(i + 1).toFixed(1)}`
+        + `V${y(least[i]).toFixed(1)}Z`;
+    }
+  }
+  return path;
+}
+
+class Figure {
+  constructor(name, shares, room) {
+    Object.assign(this, { name, shares, room });
+    this.values = [];
+    this.lines = [];
+    const pictures = shares.map(share => element('div', { className: 'picture' },
+      shares.length > 1 ? element('p', { className: 'variant-name', textContent: share.side.name }) : null,
+      this.picture(share)));
+    const title = element('h4', { textContent: name });
+    this.box = this.isEmpty ? element('figure', {}, title, element('p', { className: 'note',
+      textContent: 'No message is here in this time.' }))
+      : element('figure', {}, element('figcaption', {}, title, this.legend()),
+        element('div', { className: 'pictures' }, ...pictures), this.asTable());
+  }
+
+  // Whether no variant has a message here in the time that is drawn.
+  get isEmpty() {
+    return this.shares.every(({ data }) => data.places.every(place => greatestOf(place.greatest) === 0));
+  }
+
+  get isLog() {
+    const all = this.shares.flatMap(({ data }) => [...data.ages[0] ?? []]).filter(age => age >= 0);
+    all.sort((a, b) => a - b);
+    const most = greatestOf(this.shares.map(({ data }) => greatestOf(data.ages[GREATEST] ?? [])));
+    return all.length > 0 && most > LOG_RATIO * Math.max(1, all[Math.floor(all.length / 2)]);
+  }
+
+  // The parts of the picture: those that have something to show in any variant.
+  panels() {
+    const most = of => greatestOf(this.shares.map(({ data }) => of(data)));
+    const spread = of => greatestOf(this.shares.map(it => it.spread ? of(it.spread) : 0));
+    const places = Math.max(most(data => greatestOf(data.places.map(place => greatestOf(place.greatest)))),
+      spread(it => greatestOf(it.places.map(({ greatest }) => greatestOf(greatest)))));
+    const ages = Math.max(spread(it => greatestOf(it.ages.greatest)), most(data =>
+      Math.max(greatestOf(data.ages[GREATEST] ?? []), greatestOf(data.oldest?.greatest ?? []))));
+    const counts = most(({ redrives, expiries }) => greatestOf([...redrives, ...expiries]));
+    const panels = [{ kind: 'places', caption: 'messages', most: Math.max(1, places) }];
+    if (ages > 0) panels.push({ kind: 'ages', caption: 'age', most: ages, isTime: true, isLog: this.isLog });
+    for (const panel of panels) panel.most = Math.max(panel.most, this.required(panel.kind)?.most ?? 0);
+    if (counts) panels.push({ kind: 'counts', caption: 'redriven and expired', most: counts });
+    return panels;
+  }
+
+  picture(share) {
+    const { data, side } = share;
+    const { width, from, to } = this.room, parts = [];
+    let top = 0;
+    for (const panel of this.panels()) {
+      parts.push(...this.panel(panel, share, top + CAPTION));
+      top += CAPTION + HEIGHTS[panel.kind];
+    }
+    const { ticks, unit } = ticksOf(from, to, Math.max(2, Math.floor(width / 90)), true);
+    const x = this.xOf(to - from, from);
+    for (const { at, text } of ticks) {
+      parts.push(drawn('line', { class: 'tick', x1: x(at), x2: x(at), y1: top, y2: top + 4 }),
+        drawn('text', { class: 'tick-text', x: x(at), y: top + 16, 'text-anchor': 'middle' }, text));
+    }
+    parts.push(drawn('text', { class: 'tick-text', x: 2, y: top + 16 }, unit));
+    const line = drawn('line', { class: 'moment', x1: LEFT, x2: LEFT, y1: 0, y2: top });
+    this.lines.push(line);
+    if (this.room.end) {
+      parts.push(drawn('text', { class: 'end', x: width - RIGHT, y: CAPTION - 4, 'text-anchor': 'end' }, this.room.end));
+    }
+    const picture = drawn('svg', { width, height: top + AXIS, viewBox: `0 0 ${width} ${top + AXIS}`, role: 'img',
+      'aria-label': this.descriptionOf(data, side) }, ...parts, line);
+    this.follow(picture, top);
+    return picture;
+  }
+
+  // A pointer shows its moment, a drag zooms into its time, and two clicks show all.
+  follow(picture, height) {
+    const { from, to, width, point, zoomTo, zoomWhole } = this.room;
+    const timeAt = ({ clientX }) => from + (to - from) * Math.min(1, Math.max(0,
+      (clientX - picture.getBoundingClientRect().left - LEFT) / (width - LEFT - RIGHT)));
+    picture.addEventListener('pointermove', event => { if (event.pointerType !== 'touch') point(timeAt(event)); });
+    picture.addEventListener('dblclick', zoomWhole);
+    picture.addEventListener('pointerdown', down => {
+      point(timeAt(down));
+      const begun = timeAt(down), ends = new AbortController(), x = this.xOf(to - from, from);
+      const area = drawn('rect', { class: 'dragged', y: 0, height, width: 0 });
+      const isDrag = event => Math.abs(event.clientX - down.clientX) >= DRAG_LEAST;
+      picture.append(area);
+      document.addEventListener('pointermove', event => {
+        const [low, high] = [begun, timeAt(event)].sort((a, b) => a - b);
+        area.setAttribute('x', x(low));
+        area.setAttribute('width', isDrag(event) ? x(high) - x(low) : 0);
+      }, { signal: ends.signal });
+      const end = event => {
+        ends.abort();
+        area.remove();
+        if (event.type === 'pointerup' && isDrag(event)) zoomTo([begun, timeAt(event)].sort((a, b) => a - b));
+      };
+      for (const type of ['pointerup', 'pointercancel']) document.addEventListener(type, end, { signal: ends.signal });
+    });
+  }
+
+  xOf(span, start = 0) {
+    return value => LEFT + (this.room.width - LEFT - RIGHT) * (value - start) / span;
+  }
+
+  // The line of the requirement in a panel, of the variant that is shown last; null if there is none.
+  required(kind) {
+    const { result } = this.shares.at(-1).side;
+    return this.room.require.lineIn(kind, result.values.find(({ queue }) => queue === this.name));
+  }
+
+  lineOf({ most, isBroken, text }, y) {
+    const { width } = this.room, className = isBroken ? 'broken' : '';
+    return [drawn('line', { class: `required ${className}`, x1: LEFT, x2: width - RIGHT, y1: y(most), y2: y(most) }),
+      drawn('text', { class: className, x: LEFT + 4, y: y(most) - 3 }, text)];
+  }
+
+  panel(panel, { data, spread }, top) {
+    const { width } = this.room, height = HEIGHTS[panel.kind], y = this.heights(panel, top, height);
+    const parts = [drawn('text', { class: 'caption', x: LEFT, y: top - 4 }, panel.caption)];
+    const required = this.required(panel.kind);
+    if (required) parts.push(...this.lineOf(required, y));
+    const ticks = panel.isLog ? LOG_TICKS.filter(([at]) => at <= panel.most).map(([at, text]) => ({ at, text }))
+      : ticksOf(0, panel.most, 3, panel.isTime);
+    const list = (ticks.ticks ?? ticks).map(({ at, text }) => ({ at,
+      text: ticks.unit && at ? `${text} ${ticks.unit}` : text }));
+    for (const { at, text } of list.filter((_, i) => list.length < 5 || (list.length - 1 - i) % 2 === 0)) {
+      parts.push(drawn('line', { class: 'grid', x1: LEFT, x2: width - RIGHT, y1: y(at), y2: y(at) }),
+        drawn('text', { class: 'tick-text', x: LEFT - 5, y: y(at) + 4, 'text-anchor': 'end' }, text));
+    }
+    if (!data.places.length) return [...parts, this.absent(top + height / 2)];
+    return [...parts, ...{ places: () => this.places(data, spread, y), ages: () => this.ages(data, spread, y),
+      counts: () => this.counts(data, y) }[panel.kind]()];
+  }
+
+  absent(y) {
+    return drawn('text', { class: 'caption', x: LEFT + 20, y }, 'this variant has no such queue');
+  }
+
+  heights({ most, isLog }, top, height) {
+    const low = 1, bottom = top + height - 4, full = height - 8;
+    return isLog ? value => bottom - full * Math.log(Math.max(low, value)) / Math.log(Math.max(10, most))
+      : value => bottom - full * value / most;
+  }
+
+  places(data, spread, y) {
+    const x = this.xOf(data.places[0].means.length);
+    return PLACES.flatMap(([kind], i) => {
+      const { means, least, greatest } = data.places[i];
+      // what stays at zero is not drawn, so that lines on one another do not mix there
+      const line = means.map((mean, at) => greatest[at] ? mean : NaN);
+      return [this.spreadOf(spread?.places[i], kind, y),
+        drawn('path', { class: `band ${kind}`, d: bands(least, greatest, x, y) }),
+        drawn('path', { class: `line ${kind}`, d: steps(line, x, y) })];
+    }).reverse();
+  }
+
+  // The extent over seeds, which is of the whole run and is drawn where it is in view.
+  spreadOf(extent, kind, y) {
+    if (!extent) return '';
+    const { from, to } = this.room, x = this.xOf(to - from, from), { least, greatest } = extent;
+    const low = extent.from, width = (extent.to - low) / least.length;
+    const inView = Array.from(least, (_, i) => low + (i + 1) * width > from && low + i * width < to);
+    const at = i => x(Math.min(to, Math.max(from, low + i * width)));
+    const seen = least.map((it, i) => inView[i] ? it : NaN);
+    return drawn('path', { class: `spread ${kind}`, d: bands(seen, greatest, at, y) });
+  }
+
+  // The ages of messages that were deleted, as a band from the middle to the greatest with 95 % as a line, and the age
+  // of the oldest one.
+  ages(data, spread, y) {
+    const x = this.xOf(data.ages[0].length), fine = this.xOf(data.oldest.means.length), { means } = data.oldest;
+    return [this.spreadOf(spread?.ages, 'age', y), drawn('path', { class: 'line oldest', d: steps(means, fine, y) }),
+      drawn('path', { class: 'band age', d: bands(data.ages[MIDDLE], data.ages[GREATEST], x, y) }),
+      drawn('path', { class: 'line age', d: steps(data.ages[MOST_OF_THEM], x, y) })];
+  }
+
+  counts(data, y) {
+    const x = this.xOf(data.redrives.length), parts = [], zero = y(0);
+    const bar = (kind, i, from, to) => {
+      if (to > from) {
+        parts.push(drawn('rect', { class: `bar ${kind}`, x: x(i).toFixed(1), y: y(to).toFixed(1),
+          width: Math.max(1.5, x(1) - x(0) - 1).toFixed(1), height: (y(from) - y(to)).toFixed(1) }));
+      }
+    };
+    data.redrives.forEach((count, i) => bar('redriven', i, 0, count));
+    data.expiries.forEach((count, i) => bar('expired', i, 0, count));
+    parts.push(drawn('line', { class: 'grid', x1: LEFT, x2: this.room.width - RIGHT, y1: zero, y2: zero }));
+    return parts;
+  }
+
+  // The colours with what there is at the moment that is pointed at, one entry for each line that is drawn.
+  legend() {
+    const kinds = this.panels().map(({ kind }) => kind), groups = [];
+    const group = (title, entries) => groups.push(element('div', {}, element('span', { textContent: `${title}: ` }),
+      ...entries));
+    const isThere = i => !i || this.shares.some(({ data }) => greatestOf(data.places[i]?.greatest ?? []) > 0);
+    group('messages', PLACES.map(([kind, text], i) => !isThere(i) ? null
+      : this.entry(kind, text, (data, share) => this.numberAt(data.places[i], share))));
+    if (kinds.includes('ages')) {
+      group('age when deleted', [this.entry('age', '95 %', ({ ages }, share) => this.ageAt(ages[MOST_OF_THEM], share)),
+        this.entry('age-band', 'middle to greatest', ({ ages }, share) => [MIDDLE, GREATEST].map(which =>
+          this.ageAt(ages[which], share)).join(' to ').replace('- to -', '-')),
+        this.entry('oldest', 'of the oldest', ({ oldest }, share) => this.ageAt(oldest.means, share))]);
+    }
+    if (kinds.includes('counts')) {
+      group('left', [this.entry('redriven', 'redriven', ({ redrives }, share) => grouped(this.itemAt(redrives, share))),
+        this.entry('expired', 'expired', ({ expiries }, share) => grouped(this.itemAt(expiries, share)))]);
+    }
+    return element('div', { className: 'legend' }, ...groups);
+  }
+
+  // An entry of the legend, with what `tellAt` says of each variant at the moment that is pointed at.
+  entry(kind, text, tellAt) {
+    const value = element('span', { className: 'value' });
+    this.values.push(share => setText(value, this.shares.map(({ data }) => data.places.length ? tellAt(data, share) : '-')
+      .join(' | ')));
+    return element('span', { className: `entry ${kind}` }, element('span', { className: 'swatch' }), `${text} `, value);
+  }
+
+  itemAt(numbers, share) {
+    return numbers[Math.max(0, Math.min(numbers.length - 1, Math.floor(share * numbers.length)))];
+  }
+
+  numberAt({ least, greatest }, share) {
+    const [low, high] = [this.itemAt(least, share), this.itemAt(greatest, share)];
+    return low === high ? grouped(high) : `${grouped(low)} to ${grouped(high)}`;
+  }
+
+  ageAt(ages, share) {
+    const age = this.itemAt(ages, share);
+    return age >= 0 ? duration(Math.round(age)) : '-';
+  }
+
+  point(share) {
+    const x = LEFT + (this.room.width - LEFT - RIGHT) * share;
+    for (const line of this.lines) {
+      line.setAttribute('x1', x);
+      line.setAttribute('x2', x);
+    }
+    for (const show of this.values) show(share);
+  }
+
+  // The numbers of a moment in words.
+  wordsAt(share) {
+    const sides = this.shares.filter(({ data }) => data.places.length).map(({ side, data }) =>
+      (this.shares.length > 1 ? `${side.name} ` : '')
+      + PLACES.map(([, text], i) => `${this.numberAt(data.places[i], share)} ${text}`).join(', '));
+    return `${this.name} ${sides.join('; ')}`;
+  }
+
+  descriptionOf(data, side) {
+    if (!data.places.length) return `${this.name}: variant ${side.name} has no such queue`;
+    const most = PLACES.map(([, text], i) => `at most ${grouped(greatestOf(data.places[i].greatest))} ${text}`);
+    return `${this.name}${this.shares.length > 1 ? `, variant ${side.name}` : ''} from ${duration(this.room.from)} to `
+      + `${duration(this.room.to)}: ${most.join(', ')}`;
+  }
+
+  // The same in a table, which is made as it is opened.
+  asTable() {
+    const box = element('details', {}, element('summary', { textContent: `${this.name} as a table` }));
+    box.ontoggle = () => {
+      if (!box.open || box.children.length > 1) return;
+      for (const { side, data } of this.shares.filter(it => it.data.places.length)) {
+        const rows = Array.from({ length: 13 }, (_, i) => i / 12).map(share => ({ cells: [
+          duration(Math.round(this.room.from + (this.room.to - this.room.from) * share)),
+          ...data.places.map(place => this.numberAt(place, share)), this.ageAt(data.oldest.means, share)] }));
+        const titles = ['at', ...PLACES.map(([, text]) => text), 'age of the oldest'];
+        box.append(element('div', { className: 'scrolls', tabIndex: 0, role: 'region', 'aria-label': 'table' },
+          tableOf(`${this.name}, variant ${side.name}`, titles, rows)));
+      }
+    };
+    return box;
+  }
+}

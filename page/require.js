@@ -1,0 +1,60 @@
+// A requirement: that a number of the answer is at most so much. The page has this file. The tiles judge it, and it is a
+// line in the pictures.
+
+// What each tile is, by its place: how its number is written and read, and the panel in which it is a line.
+const AGE_TILE = 1, BACKLOG_TILE = 3;
+const TILE_KEY = tile => tile === AGE_TILE ? 'age_ms' : 'count';
+
+class Requirement {
+  // `changed` is called as another one is required.
+  constructor(changed) {
+    [this.measure, this.field, this.verdict] = ['measure', 'most', 'verdict'].map(byId);
+    this.measure.onchange = () => this.take(changed);
+    this.field.oninput = () => this.take(changed);
+    this.most = null;
+  }
+
+  // The number of the tile that is required, or drawn as a curve.
+  get tile() {
+    return Number(this.measure.value);
+  }
+
+  take(changed) {
+    const text = this.field.value.trim(), most = meant(TILE_KEY(this.tile), text);
+    this.field.setAttribute('aria-invalid', String(text !== '' && !Number.isInteger(most)));
+    this.most = text === '' || !Number.isInteger(most) ? null : most;
+    changed();
+  }
+
+  // Whether a tile is past what is required of it.
+  isBroken(tile, number) {
+    return this.most !== null && tile === this.tile && number !== null && number > this.most;
+  }
+
+  // The names of the tiles to choose from.
+  name(tiles) {
+    if (this.measure.options.length) return;
+    this.measure.append(...tiles.map(({ label }, i) => element('option', { value: i, textContent: label,
+      selected: i === AGE_TILE })));
+  }
+
+  // Says whether it holds, and in how many seeds.
+  tell(tiles, spread) {
+    const { number, written } = tiles[this.tile], seeds = spread && this.most !== null
+      ? `; it holds in ${spread.countUpTo(this.tile, this.most)} of ${spread.count} seeds` : '';
+    const isBroken = this.isBroken(this.tile, number);
+    this.verdict.className = isBroken ? 'broken' : '';
+    setText(this.verdict, this.most === null ? ''
+      : `${isBroken ? 'Exceeded' : 'Holds'} with ${number === null ? 'none' : written(number)}${seeds}.`);
+  }
+
+  // The line of it in the picture of a queue with these numbers; null if it is none.
+  lineIn(kind, values) {
+    const of = { ages: AGE_TILE, places: BACKLOG_TILE }[kind];
+    if (this.most === null || of !== this.tile) return null;
+    const number = (kind === 'ages' ? values?.age_p95_ms : values?.depth_greatest) ?? null;
+    const isBroken = this.isBroken(of, number);
+    const most = kind === 'ages' ? `95 % at most ${duration(this.most)}` : `at most ${grouped(this.most)} in all`;
+    return { most: this.most, isBroken, text: `${most}${isBroken ? ': exceeded' : ''}` };
+  }
+}
