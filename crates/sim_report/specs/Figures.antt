@@ -118,11 +118,13 @@ abbrev pub levels_from : (List Row → ℕ) → Stretch → List Row → List Ro
 levels_from level s before [] = []
 levels_from level s before (row ∷ rows) =
     let so_far = before ++ row ∷ [] in
-    cond (is_within s row) (record { at = row.key.at; number = level so_far } ∷ []) [] ++ levels_from level s so_far rows
+    cond (is_within s row) (record { at = row.key.at; number = level so_far } ∷ []) []
+    ++ levels_from level s so_far rows
 
 -- the greatest of such a number, at the beginning of a stretch or after one of its rows, with the first such moment
 abbrev pub peak_of : (List Row → ℕ) → Stretch → List Row → Peak
-peak_of level s rows = fold higher (record { at = s.from; number = level (rows_before s rows) }) (levels_from level s [] rows)
+peak_of level s rows =
+    fold higher (record { at = s.from; number = level (rows_before s rows) }) (levels_from level s [] rows)
 
 -- what a row does to its message: receives it, brings it back or takes it out of the queue
 abbrev pub flight_of : RowKind → RowAnswer → Flight
@@ -306,8 +308,8 @@ figures_of_queue queues s rows q = map (figure_fields q.1) (queue_figures queues
 abbrev pub figures_of_actor : ℕ → Stretch → List Row → ℕ × List ℕ → List (List (List ℕ))
 figures_of_actor queues s rows a = map (figure_fields a.1) (actor_figures queues s (rows_by a.0 rows))
 
--- the records of the figures of queues and actors with these names over rows before the end of a stretch; the queues are
--- the first agents
+-- the records of the figures of queues and actors with these names, over rows before the end of a stretch; the queues
+-- are the first agents
 abbrev pub figures_records : List (List ℕ) → List (List ℕ) → Stretch → List Row → List (List (List ℕ))
 figures_records queues actors s rows =
     figures_header
