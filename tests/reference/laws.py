@@ -1,0 +1,529 @@
+"""Laws of the log, as docs/LAWS.md and docs/MODEL.md have them, over the rows of a log and the settings of its scenario.
+
+Each law is a function over a log's rows, in order. It raises Broken at the first row that breaks it. Nothing here is
+shared with the simulator, with the tools or with the reference beside this file.
+"""
+from __future__ import annotations
+
+import collections
+import csv
+import hashlib
+import io
+import pathlib
+import re
+import tomllib
+from collections.abc import Callable, Iterator
+from typing import Any, NamedTuple
+
+LONGEST_FLIGHT_MS = 43_200_000
+DEDUPLICATION_MS = 300_000
+NEVER = float("inf")
+RECEIPT = re.compile(r"r-(0|[1-9]\d*)-(0|[1-9]\d*)-([1-9]\d*)")
+CALL_FIELDS = ("at", "call", "body", "group", "id", "delay", "receipt", "max", "wait", "timeout", "task")
+
+
+class Broken(Exception):
+    """A row that breaks a law, or the end of a log that does."""
+
+
+class Row(NamedTuple):
+    """A row of a log; `at` is in milliseconds."""
+    at: int
+    queue: str
+    agent: str
+    call: str
+    answer: str
+    message: str
+    receipt: str
+    detail: str
+
+    def comes(self) -> bool:
+        """Whether a message comes to its queue."""
+        return self.call in ("send", "arrive") and self.answer == "new"
+
+    def is_received(self) -> bool:
+        return self.call == "receive" and self.answer == "ok"
+
+    def is_changed(self) -> bool:
+        return self.call == "change" and self.answer == "ok"
+
+    def leaves(self) -> bool:
+        """Whether a message leaves its queue for good."""
+        return self.answer in ("deleted", "expired") or self.call in ("redrive", "move")
+
+    def origin(self) -> str:
+        """The origin of a message that comes."""
+        return "o" + self.message[1:] if self.call == "send" else self.detail
+
+
+Log = list[Row]
+Table = dict[str, Any]
+
+
+def must(holds: bool, row: Row | None, why: str) -> None:
+    """Raises Broken unless something holds of a row, or of the end of a log."""
+    if not holds:
+        raise Broken(f"{why}: {','.join(map(str, row)) if row else 'at the end'}")
+
+
+def rows_of(output: bytes) -> Log:
+    """The rows of a log, or of all that `run` prints."""
+    lines = csv.reader(io.StringIO(output.decode(), newline=""))
+    next(lines)
+    rows = []
+    for fields in lines:
+        if len(fields) != 8 or not fields[0].isdigit():
+            break
+        rows.append(Row(int(fields[0]), *fields[1:]))
+    return rows
+
+
+# ---- settings ----
+class Scenario:
+    """The settings of a scenario: its queues, actors and tasks by their names, in the order of their numbers."""
+
+    def __init__(self, text: bytes, folder: pathlib.Path):
+        table = tomllib.loads(text.decode("utf-8-sig"))
+        self.horizon: int = table["horizon"]
+        self.seed: int = table.get("seed", 0)
+        self.queues: dict[str, Table] = {
+            queue["name"]: {**queue, "number": n, "fifo": queue["name"].endswith(".fifo")}
+            for n, queue in enumerate(table["queue"])}
+        self.actors: dict[str, Table] = {
+            actor["name"]: {**actor, "number": len(self.queues) + n}
+            for n, actor in enumerate(self.agents(table.get("actor", [])))}
+        self.tasks: dict[str, Table] = {task["name"]: task for task in table.get("task", [])}
+        for actor in self.actors.values():
+            if actor["kind"] == "script":
+                text_of = actor["calls"] if "calls" in actor else (folder / actor["script"]).read_text("utf-8-sig")
+                actor["calls"] = calls_of(text_of)
+
+    @staticmethod
+    def agents(actors: list[Table]) -> Iterator[Table]:
+        """One agent for each actor, and then its further copies, actor by actor."""
+        for actor in actors:
+            yield {**actor, "name": actor["name"] + "-1"} if "copies" in actor else actor
+        for actor in actors:
+            for copy in range(2, actor.get("copies", 1) + 1):
+                yield {**actor, "name": f"{actor['name']}-{copy}"}
+
+    def visibility_ms(self, row: Row) -> int:
+        """The visibility timeout that a receive begins: the call's, else the consumer's, else the queue's."""
+        actor, own = self.actors[row.agent], self.queues[row.queue].get("visibility_s", 30)
+        if actor["kind"] == "script":
+            return 1000 * int(self.last_receive(row)["timeout"] or own)
+        return 1000 * int(actor.get("timeout_s", own))
+
+    def last_receive(self, row: Row) -> Table:
+        """The last receive of a row's actor by then: a script's call, or what a consumer always asks."""
+        actor = self.actors[row.agent]
+        if actor["kind"] != "script":
+            return {"max": actor.get("batch", 1), "wait": actor.get("wait_s", 0)}
+        calls: list[Table] = actor["calls"]
+        return next(call for call in reversed(calls) if call["at"] <= row.at and call["call"] == "receive")
+
+    def longest_asked_ms(self, row: Row) -> int:
+        """The longest timeout that a row of a change may have asked for."""
+        actor = self.actors[row.agent]
+        if actor["kind"] == "script":
+            return 1000 * int(next(call for call in actor["calls"] if call["at"] == row.at)["timeout"])
+        own = actor.get("timeout_s", self.queues[row.queue].get("visibility_s", 30))
+        return 1000 * int(max([own, *actor.get("backoff_s", [])]))
+
+    def latency(self, name: str) -> tuple[int, int]:
+        """The bounds of the latency of what a queue, consumer or task sends away."""
+        table = self.queues.get(name) or self.actors.get(name) or self.tasks[name]
+        if "latency_ms" in table:
+            return table["latency_ms"], table["latency_ms"]
+        return table["latency_min_ms"], table["latency_max_ms"]
+
+    def receipt(self, text: str, site: int, came: int) -> tuple[str, int]:
+        """The message and count of a receipt of a queue to which so many messages came, or nothing and 0."""
+        found = RECEIPT.fullmatch(text)
+        if not found or int(found[1]) != site or int(found[2]) >= came or int(found[3]) >= 2**62:
+            return "", 0
+        return f"m-{found[1]}-{found[2]}", int(found[3])
+
+
+def calls_of(text: str) -> list[Table]:
+    """The calls of a script, in order."""
+    lines = [line for line in csv.reader(io.StringIO(text.lstrip("\ufeff"), newline="")) if line]
+    return [dict(zip(CALL_FIELDS, [int(line[0]), *line[1:]])) for line in lines[1:]]
+
+
+# ---- what is sent ----
+class Given(NamedTuple):
+    """What a send, or an arrival, gives its message. A group and id that rows do not tell are None."""
+    group: str | None
+    id: str | None
+    delay_s: int
+
+
+class Sends:
+    """What each row that sends was given, by its place in the log."""
+
+    def __init__(self, log: Log, scenario: Scenario):
+        self.scenario = scenario
+        self.groups: dict[str, str | None] = {}
+        self.made: collections.Counter[str] = collections.Counter()
+        self.away: dict[str, list[tuple[int, str]]] = collections.defaultdict(list)
+        self.given: dict[int, Given] = {}
+        for place, row in enumerate(log):
+            if row.call == "send":
+                self.given[place] = self.sent(row)
+            elif row.call == "forward":
+                self.away[row.agent].append((row.at, row.message))
+            elif row.call == "arrive":
+                self.given[place] = self.arrived(row)
+            if row.comes():
+                self.groups[row.message] = self.groups[row.origin()] = self.given[place].group
+
+    def sent(self, row: Row) -> Given:
+        queue, actor = self.scenario.queues[row.queue], self.scenario.actors[row.agent]
+        nth, self.made[row.agent] = self.made[row.agent], self.made[row.agent] + 1
+        if actor["kind"] == "script":
+            call = next(call for call in actor["calls"] if call["at"] == row.at)
+            body, group, own_id, delay = call["body"], call["group"], call["id"], call["delay"]
+        else:
+            body, delay = actor["body"].replace("{n}", str(nth)), actor.get("delay_s", "")
+            own_id = f"{actor['number']}-{nth}" if queue["fifo"] and actor.get("ids", True) else ""
+            group = (f"g{nth % actor['groups']}" if "groups" in actor
+                     else drawn_group(actor, self.scenario.seed, nth) if "key_groups" in actor else "")
+        if queue.get("content_dedup") and not own_id:
+            own_id = hashlib.sha256(body.encode()).hexdigest()
+        own_delay = delay != "" and not queue["fifo"]
+        return Given(group, own_id, int(delay) if own_delay else queue.get("delay_s", 0))
+
+    def arrived(self, row: Row) -> Given:
+        """A forward has the group of the message that was served, and its id. Where latencies differ, rows may not tell
+        which forward arrives."""
+        if row.agent not in self.scenario.actors:
+            return Given(self.groups.get(row.detail), None, 0)
+        least, greatest = self.scenario.latency(row.agent)
+        waiting = self.away[row.agent]
+        if least == greatest:
+            message: str | None = waiting[0][1]
+            self.away[row.agent] = waiting[1:]
+        else:
+            may = {name for at, name in waiting if at + least <= row.at <= at + greatest}
+            message = may.pop() if len(may) == 1 else None
+            self.away[row.agent] = [(at, name) for at, name in waiting if at + greatest > row.at]
+        delay = self.scenario.queues[row.queue].get("delay_s", 0)
+        return Given(self.groups.get(message) if message else None, message, delay)
+
+
+def drawn_group(actor: Table, seed: int, nth: int) -> str:
+    """The group of a producer's message that is drawn by weight: by word 2n of its words."""
+    left = word(seed, actor["number"], 2 * nth) * sum(weight for _, weight in actor["key_groups"]) >> 32
+    for group, weight in actor["key_groups"]:
+        if left < weight:
+            return str(group)
+        left -= weight
+    raise Broken("a drawn group past the last")
+
+
+def word(seed: int, agent: int, place: int) -> int:
+    """A word of an agent's ChaCha20 stream."""
+    start = [0x61707865, 0x3320646E, 0x79622D32, 0x6B206574, seed & 0xFFFFFFFF, seed >> 32, 0, 0, 0, 0, 0, 0,
+             place // 16, 0, agent, 0]
+    state = start[:]
+    for step in range(80):
+        n = step % 8
+        a, b, c, d = ((n, 4 + n, 8 + n, 12 + n) if n < 4
+                      else (n - 4, 4 + (n - 3) % 4, 8 + (n - 2) % 4, 12 + (n - 1) % 4))
+        for x, y, z, turn in ((a, b, d, 16), (c, d, b, 12), (a, b, d, 8), (c, d, b, 7)):
+            state[x] = state[x] + state[y] & 0xFFFFFFFF
+            mixed = state[z] ^ state[x]
+            state[z] = (mixed << turn | mixed >> 32 - turn) & 0xFFFFFFFF
+    return state[place % 16] + start[place % 16] & 0xFFFFFFFF
+
+
+# ---- laws that are proved ----
+def in_flight(log: Log, scenario: Scenario) -> None:
+    """A message that was received is not received or moved until it is released. It is released, or leaves for the
+    dead-letter queue, exactly when the timeout of its last receive or change ends, unless it was deleted or has
+    expired by then; that is at most 12 hours after the receive. No more than `in_flight` of a queue's messages are in
+    flight at once."""
+    ends: dict[str, int] = {}
+    since: dict[str, int] = {}
+    held: collections.Counter[str] = collections.Counter()
+    for row in log:
+        message = row.message
+        if row.is_received():
+            must(message not in ends, row, "received in flight")
+            ends[message], since[message] = row.at + scenario.visibility_ms(row), row.at
+            held[row.queue] += 1
+            must(held[row.queue] <= scenario.queues[row.queue].get("in_flight", 120_000), row, "over the limit")
+        elif row.is_changed():
+            end = row.at + 1000 * int(row.detail)
+            must(message in ends and row.at < ends[message], row, "changed though not in flight")
+            must(end <= since[message] + LONGEST_FLIGHT_MS, row, "in flight for over 12 hours")
+            ends[message] = end
+        elif row.call == "release" or row.leaves():
+            back = row.call in ("release", "redrive")
+            must(row.call != "move" or message not in ends, row, "moved in flight")
+            must(not back or ends.get(message, None if message in since else row.at) == row.at, row, "back at another time")
+            must(message not in ends or row.at <= ends[message] - (row.answer == "deleted"), row, "not back in time")
+            held[row.queue] -= ends.pop(message, None) is not None
+    must(all(end > scenario.horizon for end in ends.values()), None, "not back by the end")
+
+
+def the_end(log: Log, scenario: Scenario) -> None:
+    """The messages that come to a queue are numbered from 0 on, and no row names one before it comes. Once it was
+    deleted, has expired, or left for another queue, only answers `gone` and `repeat` and a consumer's `fail` and
+    `forward` name it again; and `gone` is answered only then."""
+    came: collections.Counter[str] = collections.Counter()
+    left: set[str] = set()
+    for row in log:
+        number = scenario.queues[row.queue]["number"]
+        if row.comes():
+            must(row.message == f"m-{number}-{came[row.queue]}", row, "another number")
+            came[row.queue] += 1
+        elif row.message:
+            site, nth = map(int, row.message[2:].split("-"))
+            must(site == number and nth < came[row.queue], row, "named before it came")
+            must(row.answer != "gone" or row.message in left, row, "not gone")
+            may_follow = row.answer in ("gone", "repeat") or row.call in ("fail", "forward")
+            must(row.message not in left or may_follow, row, "after its end")
+        if row.leaves():
+            left.add(row.message)
+
+
+def dead_letters(log: Log, scenario: Scenario) -> None:
+    """A message that comes back leaves for its queue's `dead_letter` if it was received exactly `max_receives` times
+    since it came, and is released if fewer times. It is never received more often. Without `dead_letter` none leaves."""
+    times: collections.Counter[str] = collections.Counter()
+    for row in log:
+        queue = scenario.queues[row.queue]
+        times[row.message] += row.is_received()
+        most = queue.get("max_receives", NEVER)
+        must(not row.is_received() or times[row.message] <= most, row, "received too often")
+        must(row.call != "release" or times[row.message] < most, row, "released though it should leave")
+        left = times[row.message] == most and row.detail == queue.get("dead_letter")
+        must(row.call != "redrive" or left, row, "left too early, or for another queue")
+
+
+def receipts(log: Log, scenario: Scenario) -> None:
+    """The c-th receive of message n at queue S gives the receipt r-S-n-c. A delete by it is `gone` if the message has
+    left, `deleted` if it is the newest (at a FIFO queue: of a message in flight), `kept` if it is an older one at a
+    standard queue, and else ReceiptHandleIsInvalid, as for a receipt never given. A change is BadTimeout if it is over
+    12 hours; else `ok` if it is the newest of a message in flight, but BadTimeout if its end would be over 12 hours
+    after the receive; and else MessageNotInflight, or ReceiptHandleIsInvalid if never given."""
+    state = ReceiptState(scenario)
+    for row in log:
+        if row.is_received():
+            state.times[row.message] += 1
+            state.received_at[row.message] = row.at
+            must(row.receipt == f"r{row.message[1:]}-{state.times[row.message]}", row, "another receipt")
+        if row.call in ("delete", "change"):
+            message, want = state.delete(row) if row.call == "delete" else state.change(row)
+            must(row.answer == want, row, f"not {want}")
+            must(row.message == (message if want[0].islower() else ""), row, "another message")
+        state.follow(row)
+
+
+class ReceiptState:
+    """What a log says so far of receipts: how often each message was received and when last, which are in their queues
+    and in flight, and how many came to each queue."""
+
+    def __init__(self, scenario: Scenario):
+        self.scenario = scenario
+        self.times: collections.Counter[str] = collections.Counter()
+        self.received_at: dict[str, int] = {}
+        self.there: set[str] = set()
+        self.flying: set[str] = set()
+        self.came: collections.Counter[str] = collections.Counter()
+
+    def follow(self, row: Row) -> None:
+        self.came[row.queue] += row.comes()
+        if row.comes():
+            self.there.add(row.message)
+        if row.is_received():
+            self.flying.add(row.message)
+        if row.call == "release" or row.leaves():
+            self.flying.discard(row.message)
+        if row.leaves():
+            self.there.discard(row.message)
+
+    def asked(self, row: Row) -> tuple[str, int]:
+        return self.scenario.receipt(row.receipt, self.scenario.queues[row.queue]["number"], self.came[row.queue])
+
+    def delete(self, row: Row) -> tuple[str, str]:
+        """The message of a delete's receipt, and its answer."""
+        (message, count), is_fifo = self.asked(row), self.scenario.queues[row.queue]["fifo"]
+        if not message:
+            return message, "ReceiptHandleIsInvalid"
+        if message not in self.there:
+            return message, "gone"
+        if count == self.times[message] and (not is_fifo or message in self.flying):
+            return message, "deleted"
+        return message, "ReceiptHandleIsInvalid" if is_fifo or count > self.times[message] else "kept"
+
+    def change(self, row: Row) -> tuple[str, str]:
+        """The same of a change. A consumer's row of a refused change does not tell which timeout was asked for."""
+        message, count = self.asked(row)
+        longest = self.scenario.longest_asked_ms(row)
+        if longest > LONGEST_FLIGHT_MS:
+            return message, "BadTimeout"
+        if not message or message in self.there and count > self.times[message]:
+            return message, "ReceiptHandleIsInvalid"
+        if count != self.times[message] or message not in self.flying:
+            return message, "MessageNotInflight"
+        may_be_late = row.at + longest > self.received_at[message] + LONGEST_FLIGHT_MS
+        return message, "BadTimeout" if may_be_late and row.answer == "BadTimeout" else "ok"
+
+
+def time(log: Log, scenario: Scenario) -> None:
+    """Rows are in the order of time, none after the horizon. A receive gives at most the call's number of messages; one
+    that waits gives some by its end, or ends `empty` in exactly its time."""
+    given: collections.Counter[tuple[str, int]] = collections.Counter()
+    waits: dict[str, int] = {}
+    last = 0
+    for row in log:
+        must(last <= row.at <= scenario.horizon, row, "out of order, or after the horizon")
+        last = row.at
+        if row.call != "receive":
+            continue
+        call = scenario.last_receive(row)
+        given[row.agent, row.at] += row.is_received()
+        must(given[row.agent, row.at] <= int(call["max"] or 1), row, "too many")
+        end = waits.pop(row.agent, None)
+        in_time = end is None or (row.at <= end if row.answer == "ok" else row.answer == "empty" and row.at == end)
+        must(in_time, row, "waits too long")
+        if row.answer == "wait":
+            waits[row.agent] = row.at + 1000 * int(call["wait"])
+    must(all(end > scenario.horizon for end in waits.values()), None, "waits for ever")
+
+
+# ---- laws that hold by the definitions ----
+def delay_and_retention(log: Log, scenario: Scenario) -> None:
+    """A message with a delay (the send's own at a standard queue, else the queue's; none if it was redriven or moved) is
+    released exactly when it ends, and not received before; no other is released that was not received. From
+    `retention_s` after it was enqueued on no row receives, changes, releases or removes a message but `expire`, which
+    has exactly that moment (its arrival's, if it arrives too old). It was enqueued when it came, but a dead letter of a
+    standard queue when it was enqueued before; `expire` and `delete` tell its age since then."""
+    given = Sends(log, scenario).given
+    since: dict[str, int] = {}
+    ready: dict[str, int] = {}
+    expiry: dict[str, int] = {}
+    received: set[str] = set()
+    for place, row in enumerate(log):
+        message, queue = row.message, scenario.queues[row.queue]
+        if row.comes():
+            keeps = row.agent in scenario.queues and not queue["fifo"]
+            since[message] = since[row.origin()] = since[row.origin()] if keeps else row.at
+            expiry[message] = max(row.at, since[message] + 1000 * queue.get("retention_s", 345_600))
+            if given[place].delay_s:
+                ready[message] = row.at + 1000 * given[place].delay_s
+        elif row.is_received() or row.is_changed() or row.call == "release" or row.leaves():
+            expires = row.call == "expire"
+            must(row.at == expiry[message] if expires else row.at < expiry[message], row, "another end")
+            must(row.call != "release" or message in ready or message in received, row, "had no delay")
+            tells_age = row.answer in ("deleted", "expired")
+            must(not tells_age or int(row.detail) == row.at - since[message], row, "another age")
+            if message in ready:
+                must(expires and row.at <= ready[message] or row.call == "release" and row.at == ready[message],
+                     row, "another end of the delay")
+            ready.pop(message, None)
+            if row.is_received():
+                received.add(message)
+            elif row.leaves():
+                expiry.pop(message)
+    must(all(at > scenario.horizon for at in [*expiry.values(), *ready.values()]), None, "stays too long, or delayed")
+
+
+def fifo(log: Log, scenario: Scenario) -> None:
+    """When a message of a FIFO queue is received, each message of its group that came before it and is still in the
+    queue was received by the same call; and no message of the group that came after it is in flight."""
+    given = Sends(log, scenario).given
+    groups: dict[str, tuple[str, str]] = {}
+    there: dict[tuple[str, str], list[str]] = collections.defaultdict(list)
+    calls: dict[str, tuple[str, int]] = {}
+    for place, row in enumerate(log):
+        message = row.message
+        if not scenario.queues[row.queue]["fifo"] or not message:
+            continue
+        if row.comes():
+            group = given[place].group
+            if group is not None:
+                groups[message] = (row.queue, group)
+                there[groups[message]].append(message)
+        elif row.is_received() and message in groups:
+            others = there[groups[message]]
+            before = others.index(message)
+            same_call = all(calls.get(other) == (row.agent, row.at) for other in others[:before])
+            must(same_call, row, "an earlier one waits")
+            must(not any(other in calls for other in others[before:]), row, "a later one is in flight")
+            calls[message] = (row.agent, row.at)
+        elif row.call == "release" or row.leaves():
+            calls.pop(message, None)
+            if row.leaves() and message in groups:
+                there[groups[message]].remove(message)
+
+
+def deduplication(log: Log, scenario: Scenario) -> None:
+    """A send to a FIFO queue, also a forward that arrives, is `repeat` if a message that was `new` by a send of the same
+    deduplication id in the same scope came less than 5 minutes before it, and then it names that message; else it is
+    `new`. At a standard queue, and of what was redriven or moved, all are `new`."""
+    given = Sends(log, scenario).given
+    last: dict[tuple[str, str | None, str | None], Row] = {}
+    made: dict[str, tuple[int, tuple[str, str | None, str | None] | None]] = {}
+    for place, row in enumerate(log):
+        if row.answer not in ("new", "repeat"):
+            continue
+        queue = scenario.queues[row.queue]
+        if not queue["fifo"] or row.call == "arrive" and row.agent not in scenario.actors:
+            must(row.answer == "new", row, "deduplicated")
+            continue
+        by_group = queue.get("dedup_scope", "queue") == "group"
+        key = (row.queue, given[place].group if by_group else None, given[place].id)
+        known = given[place].id is not None and (given[place].group is not None or not by_group)
+        if row.answer == "new":
+            must(not known or key not in last or row.at - last[key].at >= DEDUPLICATION_MS, row, "new again")
+            made[row.message] = (row.at, key if known else None)
+            last[key] = row
+        else:
+            must(row.message in made and row.at - made[row.message][0] < DEDUPLICATION_MS, row, "repeats nothing")
+            must(not known or made[row.message][1] in (None, key), row, "repeats another")
+
+
+def journeys(log: Log, scenario: Scenario) -> None:
+    """What a queue, task or consumer sends away (`redrive`, `move`, `forward`) arrives at that destination once, after
+    its latency, a message of a queue or task with its origin; and nothing else arrives. Each receive, and an arrival
+    that repeats a message, tells the origin with which the message came."""
+    away: dict[tuple[str, str, str], list[int]] = collections.defaultdict(list)
+    origins: dict[str, str] = {}
+    for row in log:
+        if row.call in ("redrive", "move", "forward"):
+            origin = "" if row.call == "forward" else origins[row.message]
+            away[row.agent, row.detail, origin].append(row.at)
+        if row.call == "arrive":
+            sent = away[row.agent, row.queue, "" if row.agent in scenario.actors else row.detail]
+            least, greatest = scenario.latency(row.agent)
+            must(bool(sent), row, "was not sent")
+            must(sent[0] + least <= row.at <= sent.pop(0) + greatest, row, "too early or too late")
+        if row.comes():
+            origins[row.message] = row.origin()
+            forwarded = row.call == "arrive" and row.agent in scenario.actors
+            must(not forwarded or row.detail == "o" + row.message[1:], row, "a forward with another origin")
+        tells = row.is_received() or (row.call, row.answer) == ("arrive", "repeat")
+        must(not tells or row.detail == origins[row.message], row, "another origin")
+    late = [at for key, sent in away.items() for at in sent if at + scenario.latency(key[0])[1] <= scenario.horizon]
+    must(not late, None, "never arrives")
+
+
+LAWS: tuple[Callable[[Log, Scenario], None], ...] = (
+    in_flight, the_end, dead_letters, receipts, time, delay_and_retention, fifo, deduplication, journeys)
+
+
+def broken(log: Log, scenario: Scenario) -> dict[str, str]:
+    """The laws that a log breaks, each with the row at which it does."""
+    faults = {}
+    for law in LAWS:
+        try:
+            law(log, scenario)
+        except Broken as fault:
+            faults[law.__name__] = str(fault)
+        except (KeyError, StopIteration, ValueError, IndexError) as fault:
+            faults[law.__name__] = f"a row names what is not there ({type(fault).__name__} {fault})"
+    return faults
