@@ -213,8 +213,9 @@ pub extern "C" fn sqs_page_rehearse_with_files(
     ensures length { length room.new ≡ length room.old }
 {
     *needed = 0;
+    let newest = newest(preview);
     match scripts_in(alloc, files, lengths) {
-        Ok(Some(scripts)) => rehearse(alloc, newest(preview), text, &scripts, room, needed),
+        Ok(Some(scripts)) => rehearse(alloc, newest, text, &scripts, room, needed),
         Ok(None) => NO_FILES,
         Err(_) => NO_MEMORY,
     }
@@ -257,16 +258,9 @@ pub extern "C" fn sqs_page_compare(
     ensures length { length room.new ≡ length room.old }
 {
     *needed = 0;
+    let newest = newest(preview);
     match scripts_in(alloc, files, lengths) {
-        Ok(Some(scripts)) => compare(
-            alloc,
-            newest(preview),
-            first,
-            second,
-            &scripts,
-            room,
-            needed,
-        ),
+        Ok(Some(scripts)) => compare(alloc, newest, first, second, &scripts, room, needed),
         Ok(None) => NO_FILES,
         Err(_) => NO_MEMORY,
     }
