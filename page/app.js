@@ -476,10 +476,14 @@ byId('file').onchange = async ({ target }) => {
   target.value = '';
 };
 // Files that are dropped anywhere open as those that are chosen, and so does a text that is pasted beside all fields.
-document.addEventListener('dragover', event => event.preventDefault());
+document.addEventListener('dragover', event => {
+  if (event.dataTransfer.types.includes('Files')) event.preventDefault();
+});
 document.addEventListener('drop', async event => {
+  const files = [...event.dataTransfer.files];
+  if (!files.length) return;
   event.preventDefault();
-  if (event.dataTransfer.files.length) await openFiles([...event.dataTransfer.files]);
+  await openFiles(files);
 });
 document.addEventListener('paste', event => {
   if (/^(INPUT|TEXTAREA)$/.test(document.activeElement?.tagName)) return;

@@ -35,7 +35,7 @@ class Pictures {
     this.whole = Math.max(1, ...sides.map(({ result }) => result.last ?? 1));
     this.moved = Math.max(...sides.map(({ result }) => result.moved));
     const soon = this.moved + Math.floor(this.moved / 20) + 1;
-    this.end = soon < this.whole * (1 - IDLE_LEAST) ? soon : this.whole;
+    this.end = this.moved && soon < this.whole * (1 - IDLE_LEAST) ? soon : this.whole;
     if (this.zoom && this.zoom[0] >= this.whole) this.zoom = null;
     return this.draw();
   }
