@@ -433,7 +433,7 @@ function showAsked(number) {
   const variants = [...EXAMPLES.entries()].filter(([, { question }]) => question === asked.question);
   byId('asked-variants').replaceChildren(...variants.map(([i, { name, answer }]) => element('button', { type: 'button',
     textContent: titleOf(name), title: answer, 'aria-pressed': String(i === number), onclick: () => openExample(i) })));
-  const keys = [...new Set(asked.varies.map(path => path.split('.').at(-1)))];
+  const keys = [...new Set(numbers.firstOf(numbers.numbersIn(new Scenario(asked.text))).map(({ key }) => key.name))];
   setText(byId('asked-note'), asked.answer + (keys.length ? ` Try: ${keys.join(', ')}.` : ''));
 }
 
