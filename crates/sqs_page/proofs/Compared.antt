@@ -1,26 +1,24 @@
 -- Two scenarios that are compared, or not run to their ends.
-use Rattle.std.proofs.Common.{◌≡◌, Ok, Some, [], false, subst, ℕ}
+use Rattle.std.proofs.Common.{◌≡◌, Some, [], false, subst, ℕ}
 use Rattle.std.specs.Prelude.{Bool, List}
 use Rattle.std.specs.Io.KnownBytes.{Appends}
 use Rattle.sim_clock.specs.declared.refusal.Refusal.{Refusal}
 use Rattle.sim_clock.specs.declared.refusal.Refusal.TheVariants as refusals
-use Rattle.sim_scenario.specs.Drafts.{newest_of}
 use Rattle.sim_scenario.specs.declared.draft.Newest.{Newest}
 use Rattle.sqs_formats.specs.Actors.{Files}
 use Rattle.sqs_formats.specs.Comparison.{comparison}
 use Rattle.sqs_formats.specs.Output.{report_of}
-use Rattle.sqs_formats.specs.Scenario.{scenario_upto}
 use Rattle.sqs_model.specs.Limits.{IsOver}
 use Rattle.sqs_model.specs.Run.{Run}
 use Rattle.sqs_model.specs.Scenario.{Scenario}
-use Rattle.sqs_page.specs.Comparisons.{IsComparisonOf, IsFirstFault, IsSecondFault}
+use Rattle.sqs_page.specs.Comparisons.{IsComparisonOf, IsFirstFault, IsSecondFault, States}
 use Rattle.sqs_rehearsal.specs.Outcomes.{IsLeftBy, IsOutcomeOf, Stops}
 use Rattle.sqs_rehearsal.specs.declared.outcome.Outcome.{Outcome}
 use Rattle.sqs_rehearsal.specs.declared.rehearsal.Fault.TheVariants as faults
 
 -- two texts and the scenarios that they state
-module _ (newest : Newest) (first second : List ℕ) (files : Files) (a b : Scenario) (first_states : scenario_upto (newest_of newest) files first ≡ Ok a)
-    (second_states : scenario_upto (newest_of newest) files second ≡ Ok b) where
+module _ (newest : Newest) (first second : List ℕ) (files : Files) (a b : Scenario) (first_states : States newest files first a)
+    (second_states : States newest files second b) where
   -- the first one is not run to its end
   pub first_stopped : (r : Refusal) → Stops a r → IsFirstFault newest first second files (faults.Refused r)
   first_stopped refusals.CountLimit over = (record { a = a; b = b; first_states = first_states; second_states = second_states }, over)

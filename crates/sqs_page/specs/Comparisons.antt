@@ -15,11 +15,15 @@ use Rattle.sqs_page.specs.declared.comparison.Stop.TheVariants as stops
 use Rattle.sqs_rehearsal.specs.declared.rehearsal.Fault.{Fault}
 use Rattle.sqs_rehearsal.specs.declared.rehearsal.Fault.TheVariants as faults
 
+-- a text, of a version up to the newest one, states a scenario
+abbrev pub States : Newest → Files → List ℕ → Scenario → Type 0
+States newest files text s = scenario_upto (newest_of newest) files text ≡ Ok s
+
 -- the scenario that a text states, and its one-list run, which takes no count past the limit
 pub record HasRun (newest : Newest) (text : List ℕ) (files : Files) : Type 0 where
   pub scenario : Scenario
   pub run : Run
-  pub stated : scenario_upto (newest_of newest) files text ≡ Ok scenario
+  pub stated : States newest files text scenario
   pub is_run : IsRunOf scenario run
   pub not_over : ¬ IsOver scenario
 
@@ -33,8 +37,8 @@ pub record IsComparisonOf (newest : Newest) (first second : List ℕ) (files : F
 pub record AreStated (newest : Newest) (first second : List ℕ) (files : Files) : Type 0 where
   pub a : Scenario
   pub b : Scenario
-  pub first_states : scenario_upto (newest_of newest) files first ≡ Ok a
-  pub second_states : scenario_upto (newest_of newest) files second ≡ Ok b
+  pub first_states : States newest files first a
+  pub second_states : States newest files second b
 
 module _ (newest : Newest) (first second : List ℕ) (files : Files) where
   -- why the first of two scenarios is refused; both are read before it is run
@@ -46,7 +50,7 @@ module _ (newest : Newest) (first second : List ℕ) (files : Files) where
 
   -- why the second one is refused, if the first one is not
   abbrev pub IsSecondFault : Fault → Type 0
-  IsSecondFault (faults.Scenario f) = (a : Scenario) × ((scenario_upto (newest_of newest) files first ≡ Ok a) × (scenario_upto (newest_of newest) files second ≡ Err f))
+  IsSecondFault (faults.Scenario f) = (a : Scenario) × (States newest files first a × (scenario_upto (newest_of newest) files second ≡ Err f))
   IsSecondFault (faults.Refused refusals.CountLimit) = (s : AreStated newest first second files) × ((¬ IsOver s.a) × IsOver s.b)
   IsSecondFault (faults.Refused refusals.Memory) = Unit {0}
   IsSecondFault (faults.Refused r) = ⊥
@@ -59,3 +63,9 @@ module _ (newest : Newest) (first second : List ℕ) (files : Files) where
   abbrev pub Stops : Stop → Type 0
   Stops (stops.First fault) = IsFirstFault fault
   Stops (stops.Second fault) = IsSecondFault fault
+
+-- what holds of any texts that state two scenarios
+abbrev pub OfTexts : Scenario → Scenario → (Newest → List ℕ → List ℕ → Files → Type 0) → Type 0
+OfTexts a b P =
+    (newest : Newest) (first second : List ℕ) (files : Files)
+    → States newest files first a → States newest files second b → P newest first second files

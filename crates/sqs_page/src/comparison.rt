@@ -1,11 +1,9 @@
 //! The comparison of two scenarios, in one text.
-ghost use Rattle.std.specs.Prelude.{◌≡◌, IfErr, IfOk, List, ℕ};
-ghost use Rattle.sqs_formats.specs.Actors.{Files};
+ghost use Rattle.std.specs.Prelude.{IfErr, IfOk};
 ghost use Rattle.sim_scenario.specs.Drafts.{newest_of};
 ghost use Rattle.sim_scenario.specs.Gives.{Gives};
-ghost use Rattle.sim_scenario.specs.declared.draft.Newest.{Newest};
 ghost use Rattle.sqs_formats.specs.Scenario.{scenario_upto};
-ghost use Rattle.sqs_page.specs.Comparisons.{IsComparisonOf, Stops};
+ghost use Rattle.sqs_page.specs.Comparisons.{IsComparisonOf, OfTexts, States, Stops};
 ghost use Rattle.sqs_rehearsal.specs.Outcomes.{IsOutcomeOf};
 
 use sim_clock::Refusal;
@@ -43,10 +41,8 @@ fn read_both(
     second: &[u8],
     scripts: &Scripts,
 ) -> Result<(Scenario, Scenario), Stop>
-    ensures first { IfOk result (λ both.
-        scenario_upto (newest_of newest) scripts.now first.now ≡ Ok both.0) }
-    ensures second { IfOk result (λ both.
-        scenario_upto (newest_of newest) scripts.now second.now ≡ Ok both.1) }
+    ensures first { IfOk result (λ both. States newest scripts.now first.now both.0) }
+    ensures second { IfOk result (λ both. States newest scripts.now second.now both.1) }
     ensures stops { IfErr result (Stops newest first.now second.now scripts.now) }
 {
     match read(alloc, newest, first, scripts) {
@@ -62,10 +58,8 @@ fn read_both(
 fn run_both(alloc: Global, first: Scenario, second: Scenario) -> Result<(Outcome, Outcome), Stop>
     ensures first { IfOk result (λ both. IsOutcomeOf first both.0) }
     ensures second { IfOk result (λ both. IsOutcomeOf second both.1) }
-    ensures stops { (newest : Newest) (a b : List ℕ) (files : Files)
-        → scenario_upto (newest_of newest) files a ≡ Ok first
-        → scenario_upto (newest_of newest) files b ≡ Ok second
-        → IfErr result (Stops newest a b files) }
+    ensures stops { OfTexts first second (λ newest a b files.
+        IfErr result (Stops newest a b files)) }
 {
     match Outcome::of(alloc, first) {
         Ok(first) => match Outcome::of(alloc, second) {
