@@ -10,11 +10,17 @@ const greatestBy = (queues, key) => queues.filter(queue => queue[key] !== null)
 // The queues that others send their dead letters to, by their names.
 const deadLetterQueues = values => new Set(values.flatMap(queue => queue.dead_lettered_to));
 
+// Whether an actor may send to its queue; of a script in a file that is not known.
+function maySend(actor) {
+  const kind = said(actor, 'kind'), calls = said(actor, 'calls');
+  return kind === 'producer' || kind === 'script' && (typeof calls !== 'string' || /^"?\d+"?,"?send\b/m.test(calls));
+}
+
 // The queues of a scenario that only dead letters may come to: nobody sends to them, and nothing is forwarded there.
 function forDeadLetters(scenario) {
   const actors = scenario.items('actor'), names = (items, key) => items.map(item => said(item, key));
-  const others = new Set([...names(actors.filter(actor => said(actor, 'kind') !== 'consumer'), 'queue'),
-    ...names(actors, 'forward'), ...names(scenario.items('task'), 'to')]);
+  const others = new Set([...names(actors.filter(maySend), 'queue'), ...names(actors, 'forward'),
+    ...names(scenario.items('task'), 'to')]);
   return names(scenario.items('queue'), 'dead_letter').filter(name => name !== undefined && !others.has(name));
 }
 

@@ -243,7 +243,8 @@ class Parts(ToolCase):
 name = "{name}"
 {f'dead_letter = "{dead}"' if dead else ''}
 """ for name, dead in (("a", "dead"), ("dead", ""), ("b", "again"), ("again", ""), ("c", "next"), ("next", "dead"),
-                       ("d", "moved"), ("moved", "")))
+                       ("d", "moved"), ("moved", ""), ("e", "asked"), ("asked", ""), ("f", "told"), ("told", ""),
+                       ("g", "filed"), ("filed", "")))
         actors = """[[actor]]
 kind = "producer"
 queue = "again"
@@ -254,12 +255,24 @@ queue = "dead"
 kind = "consumer"
 queue = "a"
 forward = "next"
+[[actor]]
+kind = "script"
+queue = "asked"
+calls = """ + "\'\'\'\nat,call,body\n5,receive,\n9,delete,send\n\'\'\'" + """
+[[actor]]
+kind = "script"
+queue = "told"
+calls = "at,call,body\\n5,send,a\\n"
+[[actor]]
+kind = "script"
+queue = "filed"
+script = "calls.csv"
 [[task]]
 queue = "dead"
 to = "moved"
 """
         told = self.asked(ANSWER, "return [...new Set(forDeadLetters(new Scenario(values[0])))];", queues + actors)
-        self.assertEqual(told, ["dead"])
+        self.assertEqual(told, ["dead", "asked"])
 
     def test_numbers_in_words(self) -> None:
         """Each number of a key is in words, from which it is read again; so are others that people write."""
