@@ -82,12 +82,14 @@ def numbers_of(scenario: dict[str, Any]) -> dict[str, int]:
 
 
 def differing(scenarios: Iterable[dict[str, Any]]) -> list[str]:
-    """The numbers by which some scenarios differ."""
-    values: dict[str, set[int]] = {}
-    for scenario in scenarios:
-        for path, value in numbers_of(scenario).items():
-            values.setdefault(path, set()).add(value)
-    return [path for path, found in values.items() if len(found) > 1]
+    """The numbers by which some scenarios differ, of tables of the same name; one of them may lack the number."""
+    all_numbers = [numbers_of(scenario) for scenario in scenarios]
+
+    def values(path: str) -> set[int | None]:
+        table = f"{path.rpartition('.')[0]}."
+        return {numbers.get(path) for numbers in all_numbers if any(other.startswith(table) for other in numbers)}
+
+    return [path for path in dict.fromkeys(path for numbers in all_numbers for path in numbers) if len(values(path)) > 1]
 
 
 def first_line(text: str) -> str:
