@@ -58,9 +58,12 @@ function runAlone(...chosen) {
   setText(byId('waits'), why);
 }
 
-// The numbers of the text that is edited; a long one has none.
+// The numbers of the text that is edited, and whether its version is a preview; a long text has none.
 function showNumbers(isFresh) {
-  if (editor.isShort) numbers.show(new Scenario(editor.text), isFresh);
+  const scenario = editor.isShort ? new Scenario(editor.text) : null;
+  setText(byId('preview-note'), scenario && versionOf(scenario) > 2
+    ? 'This scenario has version 3, a preview: its keys and rules may still change.' : '');
+  if (scenario) numbers.show(scenario, isFresh);
   else numbers.clear();
 }
 

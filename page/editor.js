@@ -160,7 +160,8 @@ class Editor {
   }
 
   aboutKey(key) {
-    return [element('code', { textContent: key.name }), ` ${key.about}${rangeText(key)}`];
+    return [element('code', { textContent: key.name }), ` ${key.about}${rangeText(key)}`,
+      key.since > 2 ? ' It is new in version 3, a preview.' : ''];
   }
 
   keysToAdd(keys, what, there, word) {

@@ -204,9 +204,6 @@ function outOfRange(fault) {
   const { key, found, node } = fault, value = shown(node?.value);
   const text = fault.of ? `${key} of ${fault.title()} is ${value}.` : `${key} is ${value}.`;
   if (key === 'queue' && !fault.of) return 'A scenario has at least one queue.';
-  if (key === 'version' && !fault.of && value === '3') {
-    return `${text} It is a preview, which is read only for the word --preview. This page does not read it.`;
-  }
   if (key === 'kind') return `${text}${rangeText(found ?? KEYS['actor//1'][1])}${nearest(value, ACTORS)}`;
   if (key === 'body') return `${text} It has 1 byte at least for the first message, and 1,024 at most for the last.`;
   if (key === 'script') {

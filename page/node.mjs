@@ -1,7 +1,7 @@
 #!/usr/bin/env node
 // The program for machines that do not run that of dist/: the proved module of dist/playground.html, run by Node 18 or
-// later. It has the words, the outputs and the statuses of docs/FORMATS.md, but for version 3 of scenarios. A run has
-// one thread; how it is to be split is read, and changes nothing. ./sqs_rehearse calls it.
+// later. It has the words, the outputs and the statuses of docs/FORMATS.md. A run has one thread; how it is to be split
+// is read, and changes nothing. ./sqs_rehearse calls it.
 import { createHash } from 'node:crypto';
 import fs from 'node:fs';
 import path from 'node:path';
@@ -11,9 +11,9 @@ import { gunzipSync } from 'node:zlib';
 
 const TOP = path.dirname(path.dirname(fs.realpathSync(fileURLToPath(import.meta.url))));
 const PAGE = path.join(TOP, 'dist', 'playground.html');
-const USAGE = `Usage: sqs_rehearse run [--log FILE] [--scripts DIR] [--quiet] [SCENARIO]
-       sqs_rehearse check [--scripts DIR] [SCENARIO]
-       sqs_rehearse compare [--scripts DIR] FIRST SECOND
+const USAGE = `Usage: sqs_rehearse run [--log FILE] [--scripts DIR] [--preview] [--quiet] [SCENARIO]
+       sqs_rehearse check [--scripts DIR] [--preview] [SCENARIO]
+       sqs_rehearse compare [--scripts DIR] [--preview] FIRST SECOND
 
 Rehearses a scenario, checks one, or compares the reports of two, by the module of the page. docs/FORMATS.md has what
 goes in and what comes out, and the statuses.
@@ -134,9 +134,6 @@ function optionsOf(command, words) {
     else if (numbers.includes(name) && !/^\+?[0-9]+$/.test(options[name])) throw usage(`'--${name}' takes a number`);
   }
   if (options.paths.length < least || options.paths.length > most) throw usage(`${command} takes other words`);
-  if (options.preview) {
-    throw new Stop(2, 'sqs_rehearse: the page\'s module reads versions 1 and 2, and takes no --preview');
-  }
   const own = OWN.find(name => options[name] !== undefined);
   if (own) throw new Stop(2, `sqs_rehearse: the page's module writes no figures, and takes no --${own}`);
   return options;
@@ -162,15 +159,15 @@ function refusal(it, code, bytes) {
   return new Stop(number < IN_RUN ? 1 : number < OF_WRITING ? 3 : 4, line);
 }
 
-// The bytes of a run, or why it is refused.
-async function ran(it, text, files) {
-  const { code, bytes } = await it.answered('rehearse', [text], files);
+// The bytes of a run, or why it is refused. Version 3 is read only if the preview is asked for.
+async function ran(it, text, files, isPreview) {
+  const { code, bytes } = await it.answered('rehearse', isPreview, [text], files);
   if (code !== DONE) throw refusal(it, code, bytes);
   return Buffer.from(bytes.buffer, bytes.byteOffset, bytes.length);
 }
 
-async function run(it, { paths: [name = '-'], scripts, log }) {
-  const text = read(name), whole = await ran(it, text, filesOf(it, [text], scripts));
+async function run(it, { paths: [name = '-'], scripts, log, preview = false }) {
+  const text = read(name), whole = await ran(it, text, filesOf(it, [text], scripts), preview);
   if (log === undefined) return write(1, whole);
   let file;
   try {
@@ -192,29 +189,31 @@ function leastOf({ Scenario, said }, text) {
   return latencies.length ? latencies.reduce((a, b) => b < a ? b : a) : said(scenario.top, 'horizon') + 1n;
 }
 
-async function check(it, { paths: [name = '-'], scripts }) {
+async function check(it, { paths: [name = '-'], scripts, preview = false }) {
   const text = read(name);
   try {
-    await ran(it, text, filesOf(it, [text], scripts));
+    await ran(it, text, filesOf(it, [text], scripts), preview);
   } catch (error) {
     // what a run alone is refused for is no fault of the scenario
     if (!(error instanceof Stop) || error.status === 1) throw error;
   }
   const scenario = new it.Scenario(text.toString());
-  const counts = ['queue', 'actor', 'task'].map(of => `${of}s=${scenario.items(of).length}`);
+  // consumers of version 3 may have copies
+  const copiesOf = items => items.reduce((count, item) => count + Number(it.said(item, 'copies') ?? 1), 0);
+  const counts = ['queue', 'actor', 'task'].map(of => `${of}s=${copiesOf(scenario.items(of))}`);
   write(1, Buffer.from(`ok ${counts.join(' ')} least=${leastOf(it, text.toString())}\n`));
 }
 
-async function compare(it, { paths, scripts }) {
+async function compare(it, { paths, scripts, preview = false }) {
   const first = read(paths[0]);
   let second;
   try {
     second = read(paths[1]);
   } catch (error) {
-    await ran(it, first, filesOf(it, [first], scripts));
+    await ran(it, first, filesOf(it, [first], scripts), preview);
     throw error;
   }
-  const { code, bytes } = await it.answered('compare', [first, second], filesOf(it, [first, second], scripts));
+  const { code, bytes } = await it.answered('compare', preview, [first, second], filesOf(it, [first, second], scripts));
   if (code !== DONE) throw refusal(it, code === SECOND_REFUSED ? 1 : code, bytes);
   write(1, bytes);
 }

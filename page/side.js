@@ -11,15 +11,16 @@ const numberIn = (table, key, other) => {
   return typeof value === 'bigint' ? Number(value) : other;
 };
 
-// About how many rows one actor gives: of messages that it sends, of its records, or of receives that find nothing.
+// About how many rows one actor gives, with its copies: of messages that it sends, of its records, or of receives that
+// find nothing.
 function rowsOf(actor, horizon, files) {
-  const left = Math.max(0, horizon - numberIn(actor, 'start_ms', 0)), kind = said(actor, 'kind');
+  const copies = numberIn(actor, 'copies', 1), left = Math.max(0, horizon - numberIn(actor, 'start_ms', 0)), kind = said(actor, 'kind');
   if (kind === 'producer') {
     const gap = (numberIn(actor, 'gap_min_ms', 1) + numberIn(actor, 'gap_max_ms', 1)) / 2;
     return ROWS_OF_MESSAGE * Math.min(numberIn(actor, 'count', 1), left / Math.max(1, gap) + 1);
   }
   if (kind === 'consumer') {
-    return left / Math.max(1, numberIn(actor, 'idle_ms', REST) + 1000 * numberIn(actor, 'wait_s', 0));
+    return copies * left / Math.max(1, numberIn(actor, 'idle_ms', REST) + 1000 * numberIn(actor, 'wait_s', 0));
   }
   const file = files.find(({ name }) => name === said(actor, 'script'));
   return file ? ROWS_OF_MESSAGE * file.bytes.length / BYTES_OF_RECORD : 0;

@@ -1,7 +1,8 @@
 // The worker: runs a scenario in an instance of the module of its own, and tells what came out. It is given messages
 // { id, module }, { id, text, files }, { id, texts, files } for a comparison, { id, over } for what the last run tells
 // over time, and { id, text, files, over } for that of a run of which no row is wanted. It answers each with { id, ... }.
-// A text may be its bytes; the script files are a list of { name, bytes }.
+// A text may be its bytes; the script files are a list of { name, bytes }. Version 3 of scenarios, a preview, is read
+// unless `preview` is false.
 
 // The codes of crates/sqs_page; the others are refusals.
 const DONE = 0, NO_ROOM = 2, NO_MEMORY = 3, NO_LINE = 4, NO_FILES = 5, SECOND_REFUSED = 6;
@@ -43,14 +44,15 @@ function placed(it, bytes) {
   return at;
 }
 
-// Calls an export of the module with texts and script files. Gives the code, the bytes of the answer, and the
-// milliseconds.
-async function answered(call, texts, files) {
+// Calls an export of the module with texts and script files, and says whether version 3 may be read. Gives the code, the
+// bytes of the answer, and the milliseconds.
+async function answered(call, isPreview, texts, files) {
   const { whole, lengths } = laidOut(files), parts = [...texts.map(encoded), whole];
   for (let wanted = ROOM; ;) {
     const { it, room, size } = await roomy(compiled, wanted), needed = placed(it, new Uint8Array(8));
     const given = [...parts.flatMap(part => [placed(it, part), BigInt(part.length)]), placed(it, lengths)];
-    const began = performance.now(), code = it[call](...given, BigInt(files.length), room, size, needed);
+    const began = performance.now(), code = it[call](Number(isPreview), ...given, BigInt(files.length), room, size,
+      needed);
     const took = performance.now() - began;
     if (code === NO_FILES) throw new Error('The script files were not handed over well.');
     const length = new DataView(it.memory.buffer).getBigUint64(Number(needed), true);
@@ -67,9 +69,9 @@ async function answered(call, texts, files) {
 // The line of a refusal.
 const lineOf = (code, bytes) => code === NO_MEMORY ? 'refused 34 Memory' : new TextDecoder().decode(bytes).trimEnd();
 
-async function run(text, files) {
+async function run(text, files, isPreview) {
   last = null;
-  const { code, took, bytes } = await answered('rehearse', [text], files);
+  const { code, took, bytes } = await answered('rehearse', isPreview, [text], files);
   if (code !== DONE) return { code, took, line: lineOf(code, bytes) };
   const began = performance.now();
   last = new Run(bytes);
@@ -81,22 +83,22 @@ async function run(text, files) {
 }
 
 // The comparison of two scenarios; or the line of the one that is refused, and whether it is the second.
-async function compare(texts, files) {
-  const { code, bytes } = await answered('compare', texts, files);
+async function compare(texts, files, isPreview) {
+  const { code, bytes } = await answered('compare', isPreview, texts, files);
   return code === DONE ? { code, bytes } : { code, line: lineOf(code, bytes), isSecond: code === SECOND_REFUSED };
 }
 
-async function answerTo({ module, text, texts, files = [], over }) {
+async function answerTo({ module, text, texts, files = [], over, preview = true }) {
   if (module) {
     compiled = await WebAssembly.compile(module);
     return {};
   }
-  if (texts) return compare(texts, files);
+  if (texts) return compare(texts, files, preview);
   if (text !== undefined && over) {
-    const { code, values, last: lasts } = await run(text, files);
+    const { code, values, last: lasts } = await run(text, files, preview);
     return code === DONE ? { code, values, last: lasts, queues: overTime(last, over.names, over) } : { code };
   }
-  return over ? { queues: last ? overTime(last, over.names, over) : [] } : run(text, files);
+  return over ? { queues: last ? overTime(last, over.names, over) : [] } : run(text, files, preview);
 }
 
 // What is said of an error: that memory is out, if it is what a browser says then.

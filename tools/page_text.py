@@ -13,7 +13,7 @@ from typing import Any
 
 import release
 from rehearse_tools.console import Fault, read_text
-from rehearse_tools.keys import ACTORS, PREVIEW, VERSIONS, Key, keys_of
+from rehearse_tools.keys import ACTORS, VERSIONS, Key, keys_of
 from rehearse_tools.programs import TOP
 from rehearse_tools.scenarios import parsed
 
@@ -53,7 +53,7 @@ def module_in(path: str, page: bytes) -> bytes:
 
 
 def examples() -> list[dict[str, Any]]:
-    """The scenarios in examples/ whose version the module reads, each with its folder, the question that this folder's
+    """The scenarios in examples/, each with its folder, the question that this folder's
     README asks, the numbers that it varies, what the scenario answers by its own first line, its version and its text.
     Those of no folder come first, and the others in the order of the questions in the README of the whole.
     """
@@ -70,7 +70,7 @@ def examples() -> list[dict[str, Any]]:
         found += [{"folder": folder, "name": name, "question": question, "varies": varies, "text": text,
                    "answer": first_line(text).removeprefix(question).strip(), "version": tables[name]["version"]}
                   for name, text in sorted(texts.items(), key=lambda it: [
-                      numbers_of(tables[it[0]]).get(path, -1) for path in varies]) if tables[name]["version"] != PREVIEW]
+                      numbers_of(tables[it[0]]).get(path, -1) for path in varies])]
     return found
 
 
@@ -82,12 +82,14 @@ def numbers_of(scenario: dict[str, Any]) -> dict[str, int]:
 
 
 def differing(scenarios: Iterable[dict[str, Any]]) -> list[str]:
-    """The numbers by which some scenarios differ."""
-    values: dict[str, set[int]] = {}
-    for scenario in scenarios:
-        for path, value in numbers_of(scenario).items():
-            values.setdefault(path, set()).add(value)
-    return [path for path, found in values.items() if len(found) > 1]
+    """The numbers by which some scenarios differ, of tables of the same name; one of them may lack the number."""
+    all_numbers = [numbers_of(scenario) for scenario in scenarios]
+
+    def values(path: str) -> set[int | None]:
+        table = f"{path.rpartition('.')[0]}."
+        return {numbers.get(path) for numbers in all_numbers if any(other.startswith(table) for other in numbers)}
+
+    return [path for path in dict.fromkeys(path for numbers in all_numbers for path in numbers) if len(values(path)) > 1]
 
 
 def first_line(text: str) -> str:

@@ -139,6 +139,8 @@ class Parts(ToolCase):
             (POLLS.format(horizon=2_000_000, idle=1), ""),
             (POLLS.format(horizon=2_000_001, idle=1), many.format("2,000,001")),
             (POLLS.format(horizon=2_592_000_000, idle=2_000), ""),
+            (POLLS.format(horizon=1_000_000, idle=1) + "copies = 2\n", ""),
+            (POLLS.format(horizon=1_000_001, idle=1) + "copies = 2\n", many.format("2,000,002")),
             (POLLS.format(horizon=2_592_000_000, idle=1), many.format("2,592,000,000")),
             (SENDS.format(horizon=2_000_000_000, count=500_000, gap=1), ""),
             (SENDS.format(horizon=2_000_000_000, count=500_001, gap=1), many.format("2,000,004")),
@@ -198,7 +200,7 @@ class Parts(ToolCase):
               return DONE;
             };
             WebAssembly.instantiate = async () => ({ exports: { memory, room, rehearse } });
-            const { code, bytes } = await answered('rehearse', ['a'], []);
+            const { code, bytes } = await answered('rehearse', true, ['a'], []);
             return [code, new TextDecoder().decode(bytes), rooms.includes(Number(ROOM)), rooms.includes(5)];""")
         self.assertEqual(told, [0, "whole", True, True])
 

@@ -495,25 +495,30 @@ class ByNode(WrapperCase):
 
     @unittest.skipUnless(shutil.which("node"), "node is not here")
     def test_stored_cases(self):
-        """A tenth of the stored cases of versions 1 and 2, by their outputs and statuses."""
-        cases = sorted(path for path in pathlib.Path(ROOT, "tests", "cases").glob("*/*.toml")
-                       if not path.parent.name.endswith("-3"))
+        """A tenth of the stored cases, by their outputs and statuses; those of version 3 only as a preview."""
+        cases = sorted(pathlib.Path(ROOT, "tests", "cases").glob("*/*.toml"))
         self.assertGreater(len(cases), 200)
         for path in cases[::10]:
             with self.subTest(case=path.name):
                 stored = {kind: path.with_suffix(f".{kind}") for kind in ("out", "err", "status")}
                 out, err, status = (it.read_bytes() if it.exists() else b"" for it in stored.values())
-                self.assertEqual(self.run_there("run", stdin=path.read_bytes()),
+                words = ("--preview",) if path.parent.name.endswith("-3") else ()
+                self.assertEqual(self.run_there("run", *words, stdin=path.read_bytes()),
                                  (int(status or b"0"), out, NODE_NOTE + err.decode()))
+                if words and b"\nversion = 3\n" in b"\n" + path.read_bytes():
+                    self.assertEqual(self.run_there("run", stdin=path.read_bytes()),
+                                     (1, b"", NODE_NOTE + "refused 14 OutOfRange at version\n"))
 
     @unittest.skipUnless(shutil.which("node"), "node is not here")
     def test_words(self):
         place = os.path.realpath(self.path("page/node.mjs"))
         self.assertEqual(self.run_there("--where"), (0, place.encode() + b"\n", ""))
-        for words, status, line in ((["run", "none"], 1, "cannot read none"), (["run", "--log", "x/y", "s.toml"], 4,
-                                    "refused 36 Write"), (["check", "--preview", "s.toml"], 2, "sqs_rehearse: the "
-                                    "page's module reads versions 1 and 2, and takes no --preview")):
-            shutil.copy(os.path.join(ROOT, "examples", "first.toml"), self.path("s.toml"))
+        shutil.copy(os.path.join(ROOT, "examples", "first.toml"), self.path("s.toml"))
+        shutil.copy(os.path.join(ROOT, "examples", "heartbeat", "short.toml"), self.path("newer.toml"))
+        for words, status, line in ((["run", "none"], 1, "cannot read none"),
+                                    (["run", "--log", "x/y", "s.toml"], 4, "refused 36 Write"),
+                                    (["check", "newer.toml"], 1, "refused 14 OutOfRange at version"),
+                                    (["compare", "s.toml", "newer.toml"], 1, "refused 14 OutOfRange at version")):
             self.assertEqual(self.run_there(*words), (status, b"", f"{NODE_NOTE}{line}\n"))
         self.assertEqual(self.run_there("run", "--bogus")[0], 2)
         self.assertEqual(self.run_there("compare", "s.toml")[0], 2)

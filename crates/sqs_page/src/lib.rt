@@ -4,10 +4,11 @@
 #![tactic(auto)]
 
 ghost use Rattle.std.specs.Prelude.{◌≡◌, ◌≤◌, ◌<◌, ◌⊎◌, [], length, take};
+ghost use Rattle.sim_scenario.specs.declared.draft.Newest.TheVariants.{Released};
 ghost use Rattle.sqs_formats.specs.Actors.{Files};
 ghost use Rattle.sqs_page.specs.Comparisons.{IsComparisonOf, IsEitherFault, IsFirstFault, IsSecondFault};
 ghost use Rattle.sqs_page.specs.Files.{AreFiles, ForFiles};
-ghost use Rattle.sqs_page.specs.Pages.{IsLineOf, IsOutputOf, IsRefusedFor, IsRoomAfter, IsTooShort};
+ghost use Rattle.sqs_page.specs.Pages.{IsLineOf, IsOutputOf, IsRefusedFor, IsRoomAfter, IsTooShort, newest_if};
 ghost use Rattle.sqs_rehearsal.specs.FaultLines.{refusal_line};
 
 mod comparison;
@@ -20,7 +21,7 @@ use crate::files::scripts_in;
 use crate::output::output;
 use crate::room::{put, put_line};
 pub use files::FileLengths;
-use sim_scenario::Scripts;
+use sim_scenario::{Newest, Scripts};
 use sqs_rehearsal::Fault;
 use std::alloc::Global;
 
@@ -44,6 +45,17 @@ pub const NO_FILES: u32 = 5;
 
 /// The second one of two scenarios is refused: the room has the line of its refusal.
 pub const SECOND_REFUSED: u32 = 6;
+
+// The newest version of scenarios that is read, by whether the preview is asked for.
+fn newest(preview: bool) -> Newest
+    ensures { result ≡ newest_if preview }
+{
+    if preview {
+        Newest::Preview
+    } else {
+        Newest::Released
+    }
+}
 
 // Puts what was asked for into the room.
 fn put_output(output: &[u8], room: &mut [u8], needed: &mut u64) -> u32
@@ -80,20 +92,28 @@ fn put_fault(alloc: Global, refused: u32, fault: &Fault, room: &mut [u8], needed
 }
 
 // Rehearses a scenario with its script files, and puts the answer into the room.
-fn rehearse(alloc: Global, text: &[u8], scripts: &Scripts, room: &mut [u8], needed: &mut u64) -> u32
+fn rehearse(
+    alloc: Global,
+    newest: Newest,
+    text: &[u8],
+    scripts: &Scripts,
+    room: &mut [u8],
+    needed: &mut u64,
+) -> u32
     ensures code { result ≤ 4 }
-    ensures output { result ≡ 0 → IsOutputOf text.now scripts.now (take needed.new room.new) }
+    ensures output { result ≡ 0
+        → IsOutputOf newest text.now scripts.now (take needed.new room.new) }
     ensures refused { result ≡ 1
-        → IsLineOf (IsRefusedFor text.now scripts.now) (take needed.new room.new) }
+        → IsLineOf (IsRefusedFor newest text.now scripts.now) (take needed.new room.new) }
     ensures short { result ≡ 2
-        → IsTooShort room.new needed.new (IsOutputOf text.now scripts.now) }
+        → IsTooShort room.new needed.new (IsOutputOf newest text.now scripts.now) }
     ensures memory { result ≡ 3 → needed.new ≡ 0 }
     ensures line { result ≡ 4
-        → IsTooShort room.new needed.new (IsLineOf (IsRefusedFor text.now scripts.now)) }
+        → IsTooShort room.new needed.new (IsLineOf (IsRefusedFor newest text.now scripts.now)) }
     ensures room { IsRoomAfter result needed.new room.old room.new }
     ensures length { length room.new ≡ length room.old }
 {
-    match output(alloc, text, scripts) {
+    match output(alloc, newest, text, scripts) {
         Ok(output) => put_output(output.as_slice(), room, needed),
         Err(fault) => put_fault(alloc, REFUSED, &fault, room, needed),
     }
@@ -102,6 +122,7 @@ fn rehearse(alloc: Global, text: &[u8], scripts: &Scripts, room: &mut [u8], need
 // Compares two scenarios with the same script files, and puts the answer into the room.
 fn compare(
     alloc: Global,
+    newest: Newest,
     first: &[u8],
     second: &[u8],
     scripts: &Scripts,
@@ -111,29 +132,32 @@ fn compare(
     ensures code { result ≤ 6 }
     ensures has_files { result ≡ 5 → ⊥ }
     ensures output { result ≡ 0
-        → IsComparisonOf first.now second.now scripts.now (take needed.new room.new) }
+        → IsComparisonOf newest first.now second.now scripts.now (take needed.new room.new) }
     ensures first { result ≡ 1
-        → IsLineOf (IsFirstFault first.now second.now scripts.now) (take needed.new room.new) }
+        → IsLineOf (IsFirstFault newest first.now second.now scripts.now)
+        (take needed.new room.new) }
     ensures second { result ≡ 6
-        → IsLineOf (IsSecondFault first.now second.now scripts.now) (take needed.new room.new) }
+        → IsLineOf (IsSecondFault newest first.now second.now scripts.now)
+        (take needed.new room.new) }
     ensures short { result ≡ 2
-        → IsTooShort room.new needed.new (IsComparisonOf first.now second.now scripts.now) }
+        → IsTooShort room.new needed.new (IsComparisonOf newest first.now second.now scripts.now) }
     ensures memory { result ≡ 3 → needed.new ≡ 0 }
     ensures line { result ≡ 4 → IsTooShort room.new needed.new
-        (IsLineOf (IsEitherFault first.now second.now scripts.now)) }
+        (IsLineOf (IsEitherFault newest first.now second.now scripts.now)) }
     ensures room { IsRoomAfter result needed.new room.old room.new }
     ensures length { length room.new ≡ length room.old }
 {
-    match comparison(alloc, first, second, scripts) {
+    match comparison(alloc, newest, first, second, scripts) {
         Ok(output) => put_output(output.as_slice(), room, needed),
         Err(Stop::First(fault)) => put_fault(alloc, REFUSED, &fault, room, needed),
         Err(Stop::Second(fault)) => put_fault(alloc, SECOND_REFUSED, &fault, room, needed),
     }
 }
 
-/// Rehearses a scenario whose scripts are in its text, on this thread alone. `needed` gets the
-/// length of the answer, and the room the answer if there is place for it. After `DONE` that is the
-/// log, what is left at the end and the report, and after `REFUSED` the line of the refusal.
+/// Rehearses a scenario of a released version whose scripts are in its text, on this thread alone.
+/// `needed` gets the length of the answer, and the room the answer if there is place for it. After
+/// `DONE` that is the log, what is left at the end and the report, and after `REFUSED` the line of
+/// the refusal.
 /// `NO_ROOM` and `NO_LINE` ask for a longer room. After them, and after `NO_MEMORY`, which sets
 /// `needed` to 0, the room is as it was.
 #[unsafe(no_mangle)]
@@ -144,26 +168,28 @@ pub extern "C" fn sqs_page_rehearse(
     needed: &mut u64,
 ) -> u32
     ensures code { result ≤ 4 }
-    ensures output { result ≡ 0 → IsOutputOf text.now [] (take needed.new room.new) }
+    ensures output { result ≡ 0 → IsOutputOf Released text.now [] (take needed.new room.new) }
     ensures refused { result ≡ 1
-        → IsLineOf (IsRefusedFor text.now []) (take needed.new room.new) }
-    ensures short { result ≡ 2 → IsTooShort room.new needed.new (IsOutputOf text.now []) }
+        → IsLineOf (IsRefusedFor Released text.now []) (take needed.new room.new) }
+    ensures short { result ≡ 2 → IsTooShort room.new needed.new (IsOutputOf Released text.now []) }
     ensures memory { result ≡ 3 → needed.new ≡ 0 }
     ensures line { result ≡ 4
-        → IsTooShort room.new needed.new (IsLineOf (IsRefusedFor text.now [])) }
+        → IsTooShort room.new needed.new (IsLineOf (IsRefusedFor Released text.now [])) }
     ensures room { IsRoomAfter result needed.new room.old room.new }
     ensures length { length room.new ≡ length room.old }
 {
     let no_scripts = Scripts::new(Vec::new(alloc));
-    rehearse(alloc, text, &no_scripts, room, needed)
+    rehearse(alloc, Newest::Released, text, &no_scripts, room, needed)
 }
 
-/// Rehearses a scenario as `sqs_page_rehearse` does, with its script files. `files` has the name of
-/// each file and, behind it, the file; `lengths` has how long both are. After `NO_FILES` they do
-/// not fit together, `needed` is 0, and the room is as it was.
+/// Rehearses a scenario as `sqs_page_rehearse` does, with its script files, and of the version that
+/// is a preview only if that is asked for. `files` has the name of each file and, behind it, the
+/// file; `lengths` has how long both are. After `NO_FILES` they do not fit together, `needed` is 0,
+/// and the room is as it was.
 #[unsafe(no_mangle)]
 pub extern "C" fn sqs_page_rehearse_with_files(
     alloc: Global,
+    preview: bool,
     text: &[u8],
     files: &[u8],
     lengths: &[FileLengths],
@@ -172,22 +198,24 @@ pub extern "C" fn sqs_page_rehearse_with_files(
 ) -> u32
     ensures code { result ≤ 5 }
     ensures output { result ≡ 0 → ForFiles files.now lengths.now (λ scripts.
-        IsOutputOf text.now scripts (take needed.new room.new)) }
+        IsOutputOf (newest_if preview) text.now scripts (take needed.new room.new)) }
     ensures refused { result ≡ 1 → ForFiles files.now lengths.now (λ scripts.
-        IsLineOf (IsRefusedFor text.now scripts) (take needed.new room.new)) }
+        IsLineOf (IsRefusedFor (newest_if preview) text.now scripts) (take needed.new room.new)) }
     ensures short { result ≡ 2 → ForFiles files.now lengths.now (λ scripts.
-        IsTooShort room.new needed.new (IsOutputOf text.now scripts)) }
+        IsTooShort room.new needed.new (IsOutputOf (newest_if preview) text.now scripts)) }
     ensures memory { result ≡ 3 → needed.new ≡ 0 }
     ensures line { result ≡ 4 → ForFiles files.now lengths.now (λ scripts.
-        IsTooShort room.new needed.new (IsLineOf (IsRefusedFor text.now scripts))) }
+        IsTooShort room.new needed.new
+        (IsLineOf (IsRefusedFor (newest_if preview) text.now scripts))) }
     ensures no_files { result ≡ 5 → (scripts : Files) → ¬ AreFiles files.now lengths.now scripts }
     ensures nothing { result ≡ 5 → needed.new ≡ 0 }
     ensures room { IsRoomAfter result needed.new room.old room.new }
     ensures length { length room.new ≡ length room.old }
 {
     *needed = 0;
+    let newest = newest(preview);
     match scripts_in(alloc, files, lengths) {
-        Ok(Some(scripts)) => rehearse(alloc, text, &scripts, room, needed),
+        Ok(Some(scripts)) => rehearse(alloc, newest, text, &scripts, room, needed),
         Ok(None) => NO_FILES,
         Err(_) => NO_MEMORY,
     }
@@ -199,6 +227,7 @@ pub extern "C" fn sqs_page_rehearse_with_files(
 #[unsafe(no_mangle)]
 pub extern "C" fn sqs_page_compare(
     alloc: Global,
+    preview: bool,
     first: &[u8],
     second: &[u8],
     files: &[u8],
@@ -208,25 +237,30 @@ pub extern "C" fn sqs_page_compare(
 ) -> u32
     ensures code { result ≤ 6 }
     ensures output { result ≡ 0 → ForFiles files.now lengths.now (λ scripts.
-        IsComparisonOf first.now second.now scripts (take needed.new room.new)) }
+        IsComparisonOf (newest_if preview) first.now second.now scripts
+        (take needed.new room.new)) }
     ensures first { result ≡ 1 → ForFiles files.now lengths.now (λ scripts.
-        IsLineOf (IsFirstFault first.now second.now scripts) (take needed.new room.new)) }
+        IsLineOf (IsFirstFault (newest_if preview) first.now second.now scripts)
+        (take needed.new room.new)) }
     ensures second { result ≡ 6 → ForFiles files.now lengths.now (λ scripts.
-        IsLineOf (IsSecondFault first.now second.now scripts) (take needed.new room.new)) }
+        IsLineOf (IsSecondFault (newest_if preview) first.now second.now scripts)
+        (take needed.new room.new)) }
     ensures short { result ≡ 2 → ForFiles files.now lengths.now (λ scripts.
-        IsTooShort room.new needed.new (IsComparisonOf first.now second.now scripts)) }
+        IsTooShort room.new needed.new
+        (IsComparisonOf (newest_if preview) first.now second.now scripts)) }
     ensures memory { result ≡ 3 → needed.new ≡ 0 }
     ensures line { result ≡ 4 → ForFiles files.now lengths.now (λ scripts.
         IsTooShort room.new needed.new
-        (IsLineOf (IsEitherFault first.now second.now scripts))) }
+        (IsLineOf (IsEitherFault (newest_if preview) first.now second.now scripts))) }
     ensures no_files { result ≡ 5 → (scripts : Files) → ¬ AreFiles files.now lengths.now scripts }
     ensures nothing { result ≡ 5 → needed.new ≡ 0 }
     ensures room { IsRoomAfter result needed.new room.old room.new }
     ensures length { length room.new ≡ length room.old }
 {
     *needed = 0;
+    let newest = newest(preview);
     match scripts_in(alloc, files, lengths) {
-        Ok(Some(scripts)) => compare(alloc, first, second, &scripts, room, needed),
+        Ok(Some(scripts)) => compare(alloc, newest, first, second, &scripts, room, needed),
         Ok(None) => NO_FILES,
         Err(_) => NO_MEMORY,
     }

@@ -1,6 +1,7 @@
 //! The output of a rehearsal, in one text.
 ghost use Rattle.std.specs.Prelude.{◌≡◌, ◌++◌, IfErr, IfOk, List, ℕ};
 ghost use Rattle.sim_clock.specs.declared.refusal.Refusal.TheVariants.{Memory};
+ghost use Rattle.sim_scenario.specs.declared.draft.Newest.{Newest};
 ghost use Rattle.sqs_formats.specs.Actors.{Files};
 ghost use Rattle.sqs_page.specs.Pages.{IsOutputOf, IsRefusedFor, asked};
 ghost use Rattle.sqs_rehearsal.specs.Rehearsals.{IsRefused};
@@ -9,7 +10,7 @@ ghost use Rattle.sqs_rehearsal.specs.declared.rehearsal.Fault.TheVariants.{Refus
 
 use sim_clock::Refusal;
 use sim_records::ToWriter;
-use sim_scenario::Scripts;
+use sim_scenario::{Newest, Scripts};
 use sqs_rehearsal::{Fault, rehearse_alone};
 use std::alloc::Global;
 
@@ -17,8 +18,9 @@ use std::alloc::Global;
 // refused.
 #[tactic(auto, using(crate::proofs::Both::refused_for))]
 fn in_memory(fault: Fault) -> Fault
-    ensures { (text : List ℕ) (files : Files) (log report : Writer)
-        → IsRefused (asked text files) log report fault → IsRefusedFor text files result }
+    ensures { (newest : Newest) (text : List ℕ) (files : Files) (log report : Writer)
+        → IsRefused (asked newest text files) log report fault
+        → IsRefusedFor newest text files result }
 {
     match fault {
         Fault::Refused(Refusal::Write) => Fault::Refused(Refusal::Memory),
@@ -37,14 +39,21 @@ fn joined(mut text: Vec<u8>, more: &[u8]) -> Result<Vec<u8>, Fault>
     }
 }
 
-/// The log of a scenario, what is left at the end and the report, or why it is refused.
-pub fn output(alloc: Global, text: &[u8], scripts: &Scripts) -> Result<Vec<u8>, Fault>
-    ensures written { IfOk result (λ output. IsOutputOf text.now scripts.now output.items) }
-    ensures refused { IfErr result (IsRefusedFor text.now scripts.now) }
+/// The log of a scenario of a version up to the newest one, what is left at the end and the report,
+/// or why it is refused.
+pub fn output(
+    alloc: Global,
+    newest: Newest,
+    text: &[u8],
+    scripts: &Scripts,
+) -> Result<Vec<u8>, Fault>
+    ensures written { IfOk result (λ output.
+        IsOutputOf newest text.now scripts.now output.items) }
+    ensures refused { IfErr result (IsRefusedFor newest text.now scripts.now) }
 {
     let mut log = ToWriter::new(Vec::new(alloc));
     let mut ending = ToWriter::new(Vec::new(alloc));
-    match rehearse_alone(alloc, text, scripts, &mut log, &mut ending) {
+    match rehearse_alone(alloc, newest, text, scripts, &mut log, &mut ending) {
         Ok(()) => joined(log.into_inner(), ending.get_ref().as_slice()),
         Err(fault) => Err(in_memory(fault)),
     }

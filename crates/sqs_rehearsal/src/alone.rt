@@ -1,8 +1,9 @@
 //! A rehearsal on this thread alone, which starts no thread and waits for none. It is proved to
 //! return.
 ghost use Rattle.std.specs.Prelude.{◌≡◌, false, OnOk};
+ghost use Rattle.sim_scenario.specs.Drafts.{newest_of};
 ghost use Rattle.sqs_rehearsal.specs.Options.{unsplit};
-ghost use Rattle.sqs_rehearsal.specs.Rehearsals.{Rehearses, Request, request};
+ghost use Rattle.sqs_rehearsal.specs.Rehearsals.{Rehearses, Request, request_upto};
 ghost use Rattle.sqs_rehearsal.specs.Steps.{Asks, LogsOn};
 ghost use Rattle.sqs_rehearsal.specs.Writers.{seen};
 
@@ -13,7 +14,7 @@ use crate::steps::{Begun, Ended, begin, recording};
 use crate::watch::{Unwatched, Watch};
 use sim_clock::Refusal;
 use sim_records::Out;
-use sim_scenario::{Draft, Scenario, Scripts};
+use sim_scenario::{Draft, Newest, Scenario, Scripts};
 use std::alloc::Global;
 
 // The number of rows that are handed on at once: few enough that they, and the text of their lines,
@@ -72,13 +73,14 @@ pub fn rehearse_here<L: Out, R: Out, P: Watch>(
     ended.end(log, report)
 }
 
-/// Rehearses a scenario as `rehearse` does with one worker, on this thread alone.
+/// Rehearses a scenario as `rehearse_upto` does with one worker, on this thread alone.
 ///
 /// # Errors
 ///
 /// Those of `rehearse` but `NoWorker`.
 pub fn rehearse_alone<L: Out, R: Out>(
     alloc: Global,
+    newest: Newest,
     text: &[u8],
     scripts: &Scripts,
     log: &mut L,
@@ -86,10 +88,10 @@ pub fn rehearse_alone<L: Out, R: Out>(
 ) -> Result<(), Fault>
     requires log { (L.state log.old).failed ≡ false }
     requires report { (R.state report.old).failed ≡ false }
-    ensures { Rehearses (request text.now scripts.now unsplit) result
+    ensures { Rehearses (request_upto (newest_of newest) text.now scripts.now unsplit) result
         (seen L.state log.old log.new) (seen R.state report.old report.new) }
 {
-    let Ok(draft) = Draft::parse(alloc, text) else {
+    let Ok(draft) = Draft::parse_upto(alloc, newest, text) else {
         return Err(Fault::Refused(Refusal::Memory));
     };
     let options = Options {
