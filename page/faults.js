@@ -14,6 +14,8 @@ const LISTS = { 'a list of whole numbers': { items: 'whole numbers', first: '[1]
   'a list of pairs [group, weight]': { items: 'pairs [group, weight]', first: '[["g", 1]]' } };
 const NAME_RULES = { queue: "A queue's name has 1 to 80 ASCII letters, digits, - and _, and for a FIFO queue .fifo at "
   + 'its end, which counts among the 80.', other: 'A name has 1 to 80 ASCII letters, digits, - and _.' };
+const UNEXPLAINED = 'Version 3 is a preview, whose faults this page does not put into words; '
+  + './sqs_rehearse explain --preview does.';
 const SCRIPT_HEADER = 'at,call,body,group,id,delay,receipt,max,wait,timeout,task';
 
 // A value for a message.
@@ -65,7 +67,9 @@ class Fault {
     const record = match && /^(calls|script)(?::([0-9]+))?$/.exec(this.key ?? '');
     if (record) [this.key, this.record] = [record[1], Number(record[2] ?? 0)];
     this.table = match ? this.scenario.items(this.of)[this.number] : this.scenario.top;
-    this.node = this.table?.type === 'table' ? this.table.value.get(this.key) : undefined;
+    const item = /^([a-z_]+)\[([0-9]+)\]$/.exec(this.key ?? '');
+    const values = this.table?.type === 'table' ? this.table.value : new Map();
+    this.node = item ? values.get(item[1])?.value?.[Number(item[2])] ?? values.get(item[1]) : values.get(this.key);
   }
 
   value(key) {
@@ -132,6 +136,7 @@ class Fault {
 
   // What is wrong, in whole sentences.
   get reason() {
+    if (this.version === 3 && !['NotToml', 'BadScript'].includes(this.kind)) return UNEXPLAINED;
     const sentence = REASONS[this.kind]?.(this) ?? '';
     return sentence.startsWith(this.key || '\0') ? sentence : sentence.slice(0, 1).toUpperCase() + sentence.slice(1);
   }
