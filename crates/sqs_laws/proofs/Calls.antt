@@ -146,9 +146,11 @@ module _ (key : Key) where
       → All (λ m. is_visible m ≡ true) ms → length ms ≤ q.settings.in_flight_limit - in_flight q → Chain key q (map (got_row key c agent) gots) (all_received key.at timeout ms q)
   received_chain c agent timeout [] [] q e t d s v l = refl
   received_chain c agent timeout (m ∷ ms) (g ∷ gs) q e t d s v l =
-      let x : Queue = with_change q m.number (received key.at timeout) in
-      (x, one_received c agent timeout q m g e t.0 (All-head (λ y. numbered y.number q.records ≡ Some y) m ms s) (All-head (λ y. is_visible y ≡ true) m ms v) (omega (arith, l)),
-        received_chain c agent timeout ms gs x e t.1 d.1 (received_stand timeout q m ms d.0 (All-tail (λ y. numbered y.number q.records ≡ Some y) m ms s)) (All-tail (λ y. is_visible y ≡ true) m ms v) (omega (arith, l, received_more timeout q m (All-head (λ y. numbered y.number q.records ≡ Some y) m ms s) (All-head (λ y. is_visible y ≡ true) m ms v))))
+      let x : Queue = with_change q m.number (received key.at timeout) in (
+        x,
+        one_received c agent timeout q m g e t.0 (All-head (λ y. numbered y.number q.records ≡ Some y) m ms s) (All-head (λ y. is_visible y ≡ true) m ms v) (omega (arith, l)),
+        received_chain c agent timeout ms gs x e t.1 d.1 (received_stand timeout q m ms d.0 (All-tail (λ y. numbered y.number q.records ≡ Some y) m ms s)) (All-tail (λ y. is_visible y ≡ true) m ms v) (omega (arith, l, received_more timeout q m (All-head (λ y. numbered y.number q.records ≡ Some y) m ms s) (All-head (λ y. is_visible y ≡ true) m ms v))),
+      )
   received_chain c agent timeout [] (g ∷ gs) q e t d s v l = absurd t
   received_chain c agent timeout (m ∷ ms) [] q e t d s v l = absurd t
 

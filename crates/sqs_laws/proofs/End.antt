@@ -116,12 +116,12 @@ module _ (key : Key) (rows : List Row) (q : Queue) (r : Row) (p : Queue) (here :
       let old : n < q.arrivals = found_old q n one s d.there in (
         names_there one n d c,
         subst (Says (rows ++ r ∷ [])) e
-        (record {
-          came = same_count q.site rows r c ∙ h.came;
-          left = λ k o. leaves_by (k == n) n k one d l refl o;
-          fresh = λ k o.
-              left_still (id_of q k) rows r (rw (l, names_other (id_of q k) (id_of q n) r d.message (λ y. absurd (omega (arith, o, old, y)))) refl) ∙ h.fresh k o;
-        }),
+            (record {
+              came = same_count q.site rows r c ∙ h.came;
+              left = λ k o. leaves_by (k == n) n k one d l refl o;
+              fresh = λ k o.
+                  left_still (id_of q k) rows r (rw (l, names_other (id_of q k) (id_of q n) r d.message (λ y. absurd (omega (arith, o, old, y)))) refl) ∙ h.fresh k o;
+            }),
       )
 
   -- one that comes
@@ -140,17 +140,16 @@ module _ (key : Key) (rows : List Row) (q : Queue) (r : Row) (p : Queue) (here :
       let count : comings r.queue rows ≡ q.arrivals = ap (λ x. comings x rows) here ∙ h.came in
       let id : id_of q q.arrivals ≡ record { site = r.queue; number = comings r.queue rows } = ap (λ n. record { site = q.site; number = n }) (sym count) ∙ ap (λ x. record { site = x; number = comings r.queue rows }) (sym here) in
       let sure : is_gone r.answer ≡ false = new_stays r.answer new in
-      let fresh : has_left (id_of q q.arrivals) rows ≡ false = h.fresh q.arrivals (omega arith) in
-      (
+      let fresh : has_left (id_of q q.arrivals) rows ≡ false = h.fresh q.arrivals (omega arith) in (
         λ m e.
-        let i : id_of q q.arrivals ≡ m = cc in
-        subst (IsAsTold rows r) i (record { numbered = λ _. id; came = λ t. cc; after = λ t. cc; gone = λ t. cc }),
+            let i : id_of q q.arrivals ≡ m = cc in
+            subst (IsAsTold rows r) i (record { numbered = λ _. id; came = λ t. cc; after = λ t. cc; gone = λ t. cc }),
         subst (Says (rows ++ r ∷ [])) d.after
-        (record {
-          came = let one : comings q.site (rows ++ r ∷ []) ≡ comings q.site rows + bit true = comings_as q.site rows r true (rw (new, here, eq-eqb q.site q.site refl) refl) in omega (arith, one, h.came);
-          left = λ k o. comes_left (k == q.arrivals) d.one d.entries k d.number d.tells.leaves_so refl o;
-          fresh = λ k o. left_still (id_of q k) rows r (rw d.tells.leaves_so refl) ∙ h.fresh k (omega (arith, o));
-        }),
+            (record {
+              came = let one : comings q.site (rows ++ r ∷ []) ≡ comings q.site rows + bit true = comings_as q.site rows r true (rw (new, here, eq-eqb q.site q.site refl) refl) in omega (arith, one, h.came);
+              left = λ k o. comes_left (k == q.arrivals) d.one d.entries k d.number d.tells.leaves_so refl o;
+              fresh = λ k o. left_still (id_of q k) rows r (rw d.tells.leaves_so refl) ∙ h.fresh k (omega (arith, o));
+            }),
       )
 
   -- a row that leaves all as it is
@@ -165,17 +164,16 @@ module _ (key : Key) (rows : List Row) (q : Queue) (r : Row) (p : Queue) (here :
   stays_there : Stays key q r p → Meets rows r × Says (rows ++ r ∷ []) p
   stays_there d =
       let none : comes r ≡ false = d.tells.comes_so in
-      let count : comings r.queue rows ≡ q.arrivals = ap (λ x. comings x rows) here ∙ h.came in
-      (
+      let count : comings r.queue rows ≡ q.arrivals = ap (λ x. comings x rows) here ∙ h.came in (
         λ m e.
-        let i : id_of q m.number ≡ m = same_id_of q m (d.old m e).0 in
-        let left : has_left m rows ≡ is_none (numbered m.number q.records) = subst (λ x. has_left x rows ≡ is_none (numbered m.number q.records)) i (h.left m.number (d.old m e).1) in
-        record {
-          numbered = λ t. cc;
-          came = λ _. ((d.old m e).0 ∙ sym here, omega (arith, count, (d.old m e).1));
-          after = λ t. may_follow_by (may_follow r) m d e refl t;
-          gone = λ t. left ∙ ap is_none (d.gone t m e);
-        },
+            let i : id_of q m.number ≡ m = same_id_of q m (d.old m e).0 in
+            let left : has_left m rows ≡ is_none (numbered m.number q.records) = subst (λ x. has_left x rows ≡ is_none (numbered m.number q.records)) i (h.left m.number (d.old m e).1) in
+            record {
+              numbered = λ t. cc;
+              came = λ _. ((d.old m e).0 ∙ sym here, omega (arith, count, (d.old m e).1));
+              after = λ t. may_follow_by (may_follow r) m d e refl t;
+              gone = λ t. left ∙ ap is_none (d.gone t m e);
+            },
         subst (Says (rows ++ r ∷ [])) d.same (like rows r q q refl refl none d.tells.leaves_so (λ n. refl) h),
       )
 

@@ -142,24 +142,23 @@ module _ (s : Scenario) where
         let once : times (id_of q n) (rows ++ r ∷ []) ≡ times (id_of q n) rows + bit true = times_as (id_of q n) rows r true (rw (got, names_same (id_of q n) r d.names.message) refl) in
         let before : times (id_of q n) rows ≡ d.one.receives = h.received n d.one d.names.there in
         let old : n < q.arrivals = found_old q n d.one k d.names.there in
-        let other : (i : ℕ) → i ≢ n → times (id_of q i) (rows ++ r ∷ []) ≡ times (id_of q i) rows = λ i far. same_times (id_of q i) rows r (ap (λ b. words.received r && b) (names_other (id_of q i) (id_of q n) r d.names.message far) ∙ and_false (words.received r)) in
-        (
+        let other : (i : ℕ) → i ≢ n → times (id_of q i) (rows ++ r ∷ []) ≡ times (id_of q i) rows = λ i far. same_times (id_of q i) rows r (ap (λ b. words.received r && b) (names_other (id_of q i) (id_of q n) r d.names.message far) ∙ and_false (words.received r)) in (
           λ m e.
-          let i : id_of q n ≡ m = cc in
-          subst (IsAsTold rows r) i
-          (record {
-            leaves = λ t. let none : is_redrive r.kind ≡ false = no_redrive r d.tells.leaves_so in cc;
-            stays = λ t x w. let fewer : d.one.receives < x.max_receives = (h.within x (own_policy x w) n d.one d.names.there).rested rested in omega (arith, before, fewer);
-          }),
+              let i : id_of q n ≡ m = cc in
+              subst (IsAsTold rows r) i
+              (record {
+                leaves = λ t. let none : is_redrive r.kind ≡ false = no_redrive r d.tells.leaves_so in cc;
+                stays = λ t x w. let fewer : d.one.receives < x.max_receives = (h.within x (own_policy x w) n d.one d.names.there).rested rested in omega (arith, before, fewer);
+              }),
           subst (Says (rows ++ r ∷ [])) d.after
-          (record {
-            settings = h.settings;
-            valid = h.valid;
-            received = each_but (λ i m. times (id_of q i) (rows ++ r ∷ []) ≡ m.receives) q n given (λ m. refl) d.one d.names.there (λ i m far e. other i far ∙ h.received i m e) (omega (arith, once, before));
-            fresh = λ i l. other i (λ y. absurd (omega (arith, l, old, y))) ∙ h.fresh i l;
-            within = λ x b. each_changed (λ i m. IsWithin x.max_receives m) q (h.within x b) n given (λ m. refl) d.one d.names.there
-                (record { receives = let fewer : d.one.receives < x.max_receives = (h.within x b n d.one d.names.there).rested rested in omega (arith, fewer); rested = λ e. cc });
-          }),
+              (record {
+                settings = h.settings;
+                valid = h.valid;
+                received = each_but (λ i m. times (id_of q i) (rows ++ r ∷ []) ≡ m.receives) q n given (λ m. refl) d.one d.names.there (λ i m far e. other i far ∙ h.received i m e) (omega (arith, once, before));
+                fresh = λ i l. other i (λ y. absurd (omega (arith, l, old, y))) ∙ h.fresh i l;
+                within = λ x b. each_changed (λ i m. IsWithin x.max_receives m) q (h.within x b) n given (λ m. refl) d.one d.names.there
+                    (record { receives = let fewer : d.one.receives < x.max_receives = (h.within x b n d.one d.names.there).rested rested in omega (arith, fewer); rested = λ e. cc });
+              }),
         )
 
     -- one that comes back, or leaves for the dead-letter queue
@@ -171,14 +170,14 @@ module _ (s : Scenario) where
     releases_by d =
         let before : times (id_of q d.number) rows ≡ d.one.receives = h.received d.number d.one d.names.there in (
           λ m e.
-          let i : id_of q d.number ≡ m = cc in
-          subst (IsAsTold rows r) i
-          (record {
-            leaves = λ t. let none : is_redrive r.kind ≡ false = no_redrive r d.tells.leaves_so in cc;
-            stays = λ t x w. let fewer : d.one.receives < x.max_receives = lasts_by q.settings.policy d.one d.lasts x (own_policy x w) in omega (arith, before, fewer);
-          }),
+              let i : id_of q d.number ≡ m = cc in
+              subst (IsAsTold rows r) i
+              (record {
+                leaves = λ t. let none : is_redrive r.kind ≡ false = no_redrive r d.tells.leaves_so in cc;
+                stays = λ t x w. let fewer : d.one.receives < x.max_receives = lasts_by q.settings.policy d.one d.lasts x (own_policy x w) in omega (arith, before, fewer);
+              }),
           changed_by d.one d.number visible_again (λ m. refl) d.names d.tells.received_so refl
-          (λ x b. let fewer : d.one.receives < x.max_receives = lasts_by q.settings.policy d.one d.lasts x b in record { receives = omega (arith, fewer); rested = λ _. fewer }) d.after,
+              (λ x b. let fewer : d.one.receives < x.max_receives = lasts_by q.settings.policy d.one d.lasts x b in record { receives = omega (arith, fewer); rested = λ _. fewer }) d.after,
         )
 
     redrives_by : Redrives key q r p → Meets rows r × Says (rows ++ r ∷ []) p
@@ -188,12 +187,12 @@ module _ (s : Scenario) where
         let least : d.policy.max_receives ≤ d.one.receives = leb-true d.policy.max_receives d.one.receives d.worn in
         let settings : slice_get s.queues r.queue ≡ Some q.settings = ap (λ n. slice_get s.queues n) here ∙ h.settings in (
           λ m e.
-          let i : id_of q d.number ≡ m = cc in
-          subst (IsAsTold rows r) i
-          (record {
-            leaves = λ t. (d.policy, (q.settings, settings, d.by), omega (arith, before, most, least), d.to);
-            stays = λ t. let none : (is_release r.kind || words.received r) ≡ false = rw (d.tells.released_so, d.tells.received_so) refl in cc;
-          }),
+              let i : id_of q d.number ≡ m = cc in
+              subst (IsAsTold rows r) i
+              (record {
+                leaves = λ t. (d.policy, (q.settings, settings, d.by), omega (arith, before, most, least), d.to);
+                stays = λ t. let none : (is_release r.kind || words.received r) ≡ false = rw (d.tells.released_so, d.tells.received_so) refl in cc;
+              }),
           taken_by d.number d.tells.received_so d.after,
         )
 

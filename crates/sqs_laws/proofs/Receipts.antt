@@ -147,7 +147,7 @@ module _ (s : Scenario) (v : All IsQueueSettings s.queues) where
           let come : nat_lt m.number q.arrivals ≡ true = grind (arith, nat_tests, old) in
           let one : deleted_answer (delete_gone q by).0 ≡ answers.Gone = rw come refl in
           one ∙ sym (ap (λ b. if b then answers.Gone else (if nat_lt (times m rows) count then answers.Refused refusals.ReceiptHandleIsInvalid
-              else (if count == times m rows && (not fifo || flying m rows) then answers.Deleted else (if fifo then answers.Refused refusals.ReceiptHandleIsInvalid else answers.Kept)))) left)
+          else (if count == times m rows && (not fifo || flying m rows) then answers.Deleted else (if fifo then answers.Refused refusals.ReceiptHandleIsInvalid else answers.Kept)))) left)
 
       standard_found : (o : Option Message) → numbered m.number q.records ≡ o
           → deleted_answer (elim o as (λ _. Result Deleted Refusal × Queue) [ None ↦ delete_gone q by | Some one ↦ delete_standard_here q key.at by one ]).0 ≡ delete_answer false rows m count

@@ -350,7 +350,8 @@ module _ (key : Key) where
       let gone : taken_out x q.arrivals ≡ record q { arrivals = q.arrivals + 1 } = ap (λ records. record q { records = records; arrivals = q.arrivals + 1 }) (pushed_out q.arrivals q.records m n s.given_out) in
       record {
         chain = (
-          x, come_move c _ m q.entries refl refl refl tt (tells _ true false false false false refl refl refl refl refl) n f l (ap (λ x. Some x) g) (old_entries q s),
+          x,
+          come_move c _ m q.entries refl refl refl tt (tells _ true false false false false refl refl refl refl refl) n f l (ap (λ x. Some x) g) (old_entries q s),
           one_move key x _ (record q { arrivals = q.arrivals + 1 })
               (record {
                 at_key = refl;
@@ -403,7 +404,7 @@ module _ (key : Key) where
   moved_chain to (m ∷ ms) q d t e a s v =
       elim (destination to m) as
       (λ o. Chain key q (moves key d t (elim o as (λ _. Taken) [ None ↦ record { queue = q; loads = []; stuck = true } | Some n ↦ taken_one q m n (take_each (taken_out q m.number) to ms) ]).loads).rows
-          (elim o as (λ _. Taken) [ None ↦ record { queue = q; loads = []; stuck = true } | Some n ↦ taken_one q m n (take_each (taken_out q m.number) to ms) ]).queue) [
+      (elim o as (λ _. Taken) [ None ↦ record { queue = q; loads = []; stuck = true } | Some n ↦ taken_one q m n (take_each (taken_out q m.number) to ms) ]).queue) [
         | None ↦ refl
         | Some n ↦
             let x : Queue = taken_out q m.number in (

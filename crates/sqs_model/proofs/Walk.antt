@@ -45,7 +45,6 @@ use Rattle.sqs_model.proofs.Answered.{receive_by}
 use Rattle.sqs_model.proofs.Branches.{either, either_by}
 use Rattle.sqs_model.proofs.Ledger.{marks}
 use Rattle.sqs_model.proofs.Sending.{Sends}
-
 use Rattle.sqs_model.proofs.CallWalk as walk
 use Rattle.sqs_model.proofs.CallWalk.{CallLaw, DueLaw, IsTold}
 pub use Rattle.sqs_model.proofs.CallWalk.{effect_of}
