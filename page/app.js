@@ -440,7 +440,7 @@ function showAsked(number) {
 // Shows the text of the scenario, or folds it away.
 function showText(isShown) {
   byId('drawer').hidden = !isShown;
-  // what is wrong is told beside the text, or on top
+  // the fault stands beside the text, or on top
   (isShown ? byId('drawer') : byId('first-inputs')).prepend(byId('fault'));
   byId('show-text').setAttribute('aria-expanded', String(isShown));
   document.body.classList.toggle('with-text', isShown);

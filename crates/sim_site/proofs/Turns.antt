@@ -34,7 +34,7 @@ unfolding followed_by
 found_follows more key answer c None = refl
 found_follows more key answer c (Some a) = next_follows more key c (next a key.at answer).0 (next a key.at answer).1
 
--- a turn that a handling went on by, and what its actor is told of it
+-- a turn that a handling went on by, and the answer that its actor gets
 abbrev Took : Handling → Handling → Answer → Core → Core → Option Answer → Type 0
 Took a b answer c d told = GoesOn a b × DidTurn a.effects.now b.effects.now d told (turn_of a.key answer c (actor_numbered a.agent c))
 

@@ -71,7 +71,7 @@ pushed_found n (x ∷ xs) m e h =
     let other : has_number n x ≡ false = let l : x.number < n = All-head (λ y. y.number < n) x xs h in grind (arith, nat_tests) in
     rw other (pushed_found n xs m e (All-tail (λ y. y.number < n) x xs h))
 
--- what is told of messages that are received, one for each
+-- what a consumer learns of messages that it receives, one for each
 pub record IsToldOf (site : ℕ) (m : Message) (g : Got) : Type 0 where
   pub id : g.id ≡ record { site = site; number = m.number }
   pub receipt : g.receipt ≡ record { site = site; number = m.number; count = m.receives + 1 }
@@ -200,7 +200,7 @@ module _ (key : Key) where
             });
       }))
 
-  -- what is told of it leaves the site's queue and actors as they are
+  -- a row about it leaves the site's queue and actors as they are
   pub record Told (d e : Core) : Type 0 where
     pub queue : e.queue ≡ d.queue
     pub actors : e.actors ≡ d.actors

@@ -2,6 +2,7 @@
 use Rattle.std.specs.Prelude.{All, Bool, IsTrue, List, None, Option, Some, [], false, is_none, true, ℕ, ◌&&◌, ◌+◌, ◌++◌, ◌<◌, ◌==◌, ◌∷◌, ◌≡◌, ◌≢◌, ◌≤◌, ◌||◌}
 use Rattle.std.proofs.Common.{ap, arith, refl, subst, sym, ◌∙◌}
 use Rattle.std.proofs.lemmas.Bool.{eq-eqb, eqb-false, eqb-true, ne_eqb}
+use Rattle.std.proofs.Math.Bool.{and-false}
 use Rattle.sim_clock.specs.declared.key.Key.{Key}
 use Rattle.sqs_message.specs.declared.ids.MessageId.{MessageId}
 use Rattle.sqs_message.specs.declared.message.Message.{Message}
@@ -43,10 +44,6 @@ pub record Says (rows : List Row) (q : Queue) : Type 0 where
 same_id_of : (q : Queue) (m : MessageId) → m.site ≡ q.site → id_of q m.number ≡ m
 same_id_of q m e = ap (λ s. record { site = s; number = m.number }) (sym e)
 
-and_false : (b : Bool) → (b && false) ≡ false
-and_false true = refl
-and_false false = refl
-
 -- a row that tells of no coming leaves the count
 same_count : (n : ℕ) (rows : List Row) (r : Row) → comes r ≡ false → comings n (rows ++ r ∷ []) ≡ comings n rows
 same_count n rows r e = let one : comings n (rows ++ r ∷ []) ≡ comings n rows + bit false = comings_as n rows r false (rw e refl) in omega (arith, one)
@@ -78,7 +75,7 @@ same_none_by true q n k f same one e d =
 same_none_by false q n k f same one e d = ap is_none (other_changed n k f same (eqb-false n k d) q.records)
 
 module _ (key : Key) (rows : List Row) (q : Queue) (r : Row) (p : Queue) (here : r.queue ≡ q.site) (s : IsStocked q) (h : Says rows q) where
-  -- a message of the queue that is there, of which no coming is told
+  -- a row that names a message of the queue, and not by its coming
   names_there : (one : Message) (n : ℕ) → Names key q r p one n → comes r ≡ false → Meets rows r
   names_there one n d c m e =
       let i : id_of q n ≡ m = cc in
@@ -189,10 +186,10 @@ module _ (key : Key) (rows : List Row) (q : Queue) (r : Row) (p : Queue) (here :
 -- rows of other queues
 pub says_apart : (rows : List Row) (r : Row) (q : Queue) → r.queue ≢ q.site → NamesOwn r → Says rows q → Says (rows ++ r ∷ []) q
 says_apart rows r q d own h =
-    let still : (n : ℕ) → has_left (id_of q n) (rows ++ r ∷ []) ≡ has_left (id_of q n) rows = λ n. left_still (id_of q n) rows r (ap (λ b. leaves r && b) (names_apart (id_of q n) r own d) ∙ and_false (leaves r)) in
+    let still : (n : ℕ) → has_left (id_of q n) (rows ++ r ∷ []) ≡ has_left (id_of q n) rows = λ n. left_still (id_of q n) rows r (ap (λ b. leaves r && b) (names_apart (id_of q n) r own d) ∙ and-false (leaves r)) in
     record {
       came =
-          let one : comings q.site (rows ++ r ∷ []) ≡ comings q.site rows + bit false = comings_as q.site rows r false (ap (λ b. comes r && b) (ne_eqb r.queue q.site d) ∙ and_false (comes r)) in
+          let one : comings q.site (rows ++ r ∷ []) ≡ comings q.site rows + bit false = comings_as q.site rows r false (ap (λ b. comes r && b) (ne_eqb r.queue q.site d) ∙ and-false (comes r)) in
           omega (arith, one, h.came);
       left = λ n o. still n ∙ h.left n o;
       fresh = λ n o. still n ∙ h.fresh n o;

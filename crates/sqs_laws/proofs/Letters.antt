@@ -3,6 +3,7 @@ use Rattle.std.specs.Prelude.{All, Bool, IsTrue, List, None, Option, Some, [], f
 use Rattle.std.proofs.Common.{ap, arith, refl, subst, sym, ◌∙◌}
 use Rattle.std.proofs.lemmas.Bool.{eqb-false, eqb-true, leb-false, leb-true, or_parts}
 use Rattle.std.proofs.lemmas.List.Elements.{All-head, All-tail}
+use Rattle.std.proofs.Math.Bool.{and-false}
 use Rattle.sim_clock.specs.declared.key.Key.{Key}
 use Rattle.sqs_message.specs.declared.ids.MessageId.{MessageId}
 use Rattle.sqs_message.specs.declared.message.Message.{Message}
@@ -28,7 +29,7 @@ use Rattle.sqs_laws.specs.Words as words
 use Rattle.sqs_laws.proofs.Calls.{found_old}
 use Rattle.sqs_laws.proofs.Each.{each_but, each_changed, each_pushed, each_taken}
 use Rattle.sqs_laws.proofs.Moves.{Changes, Comes, Does, Ends, IsStocked, Move, Names, Receives, Redrives, Releases, Stays, Tells, changes, comes, ends, receives, redrives, releases, stays}
-use Rattle.sqs_laws.proofs.Said.{and_false, names_apart, names_other, names_same, pushed_other, taken_absent, times_as}
+use Rattle.sqs_laws.proofs.Said.{names_apart, names_other, names_same, pushed_other, taken_absent, times_as}
 use Rattle.sqs_laws.proofs.Worlds.{NamesOwn, RowLaw, every_row}
 
 -- a message that may still be received, or is in flight after as many receives as there may be
@@ -142,7 +143,7 @@ module _ (s : Scenario) where
         let once : times (id_of q n) (rows ++ r ∷ []) ≡ times (id_of q n) rows + bit true = times_as (id_of q n) rows r true (rw (got, names_same (id_of q n) r d.names.message) refl) in
         let before : times (id_of q n) rows ≡ d.one.receives = h.received n d.one d.names.there in
         let old : n < q.arrivals = found_old q n d.one k d.names.there in
-        let other : (i : ℕ) → i ≢ n → times (id_of q i) (rows ++ r ∷ []) ≡ times (id_of q i) rows = λ i far. same_times (id_of q i) rows r (ap (λ b. words.received r && b) (names_other (id_of q i) (id_of q n) r d.names.message far) ∙ and_false (words.received r)) in (
+        let other : (i : ℕ) → i ≢ n → times (id_of q i) (rows ++ r ∷ []) ≡ times (id_of q i) rows = λ i far. same_times (id_of q i) rows r (ap (λ b. words.received r && b) (names_other (id_of q i) (id_of q n) r d.names.message far) ∙ and-false (words.received r)) in (
           λ m e.
               let i : id_of q n ≡ m = cc in
               subst (IsAsTold rows r) i
@@ -214,7 +215,7 @@ module _ (s : Scenario) where
   pub says_apart : (rows : List Row) (r : Row) (q : Queue) → r.queue ≢ q.site → NamesOwn r → Says rows q → Says (rows ++ r ∷ []) q
   says_apart rows r q d own h =
       let still : (n : ℕ) → times (id_of q n) (rows ++ r ∷ []) ≡ times (id_of q n) rows =
-      λ n. same_times (id_of q n) rows r (ap (λ b. words.received r && b) (names_apart (id_of q n) r own d) ∙ and_false (words.received r)) in
+      λ n. same_times (id_of q n) rows r (ap (λ b. words.received r && b) (names_apart (id_of q n) r own d) ∙ and-false (words.received r)) in
       record {
         settings = h.settings;
         valid = h.valid;

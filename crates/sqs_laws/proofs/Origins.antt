@@ -3,6 +3,7 @@ use Rattle.std.specs.List.{fold}
 use Rattle.std.specs.Prelude.{Bool, List, None, Option, Some, [], false, if◌then◌else◌, true, ℕ, ◌&&◌, ◌++◌, ◌<◌, ◌∷◌, ◌≡◌, ◌≢◌}
 use Rattle.std.proofs.Common.{ap, arith, refl, subst, sym, true≢false, ◌∙◌}
 use Rattle.std.proofs.lemmas.List.Sums.{fold-append}
+use Rattle.std.proofs.Math.Bool.{and-false}
 use Rattle.sim_clock.specs.declared.key.Key.{Key}
 use Rattle.sqs_message.specs.declared.ids.MessageId.{MessageId}
 use Rattle.sqs_message.specs.declared.ids.Origin.{Origin}
@@ -23,7 +24,7 @@ use Rattle.sqs_laws.specs.Words as words
 use Rattle.sqs_laws.proofs.Calls.{found_old}
 use Rattle.sqs_laws.proofs.Each.{each_changed, each_pushed, each_taken}
 use Rattle.sqs_laws.proofs.Moves.{Comes, Does, IsStocked, Move, changes, comes, ends, receives, redrives, releases, stays}
-use Rattle.sqs_laws.proofs.Said.{and_false, names_apart, names_other, names_same}
+use Rattle.sqs_laws.proofs.Said.{names_apart, names_other, names_same}
 use Rattle.sqs_laws.proofs.Worlds.{NamesOwn, RowLaw, every_row_by}
 
 -- the origin of a message with one more row
@@ -57,7 +58,7 @@ module _ (key : Key) (rows : List Row) (q : Queue) (r : Row) (p : Queue) (k : Is
   others_by : (d : Comes key q r p) (n : ℕ) (m : Message) → numbered n q.records ≡ Some m → IsTold n m
   others_by d n m f =
       let old : n < q.arrivals = found_old q n m k f in
-      origin_as (id_of q n) rows r false (ap (λ b. words.comes r && b) (names_other (id_of q n) (id_of q q.arrivals) r d.message (λ y. absurd (omega (arith, old, y)))) ∙ and_false (words.comes r))
+      origin_as (id_of q n) rows r false (ap (λ b. words.comes r && b) (names_other (id_of q n) (id_of q q.arrivals) r d.message (λ y. absurd (omega (arith, old, y)))) ∙ and-false (words.comes r))
       ∙ h.told n m f
 
   comes_says : Comes key q r p → Says (rows ++ r ∷ []) p
@@ -92,7 +93,7 @@ told_by key rows q r p h (ends d) m e t = absurd (true≢false (sym t ∙ d.tell
 
 apart : (rows : List Row) (r : Row) (q : Queue) → r.queue ≢ q.site → NamesOwn r → Says rows q → Says (rows ++ r ∷ []) q
 apart rows r q d own h =
-    record { told = λ n m e. origin_as (id_of q n) rows r false (ap (λ b. words.comes r && b) (names_apart (id_of q n) r own d) ∙ and_false (words.comes r)) ∙ h.told n m e }
+    record { told = λ n m e. origin_as (id_of q n) rows r false (ap (λ b. words.comes r && b) (names_apart (id_of q n) r own d) ∙ and-false (words.comes r)) ∙ h.told n m e }
 
 opening : (n : ℕ) (settings : QueueSettings) → Says [] (record { site = n; settings = settings; records = []; entries = []; arrivals = 0 })
 opening n settings = record { told = λ i m e. cc }

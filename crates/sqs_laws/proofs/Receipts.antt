@@ -120,6 +120,20 @@ module _ (s : Scenario) (v : All IsQueueSettings s.queues) where
         ap (λ n. elim (slice_get s.queues n) as (λ _. Bool) [ None ↦ false | Some x ↦ is_fifo x.kind ]) d.at_site
         ∙ ap (λ o. elim o as (λ _. Bool) [ None ↦ false | Some x ↦ is_fifo x.kind ]) h.1.0.settings
 
+    -- a known receipt, by a text that the row was asked by
+    module _ (m : MessageId) (count : ℕ) (x : Known rows r m count) (text : List ℕ) (given : r.receipt ≡ receipts.Given text) where
+      known_read : read_receipt text ≡ Some (record { site = m.site; number = m.number; count = count })
+      known_read = let same : receipts.Given x.text ≡ receipts.Given text = sym x.given ∙ given in let t : x.text ≡ text = cc in ap read_receipt (sym t) ∙ x.read
+
+      known_here : m.site ≡ q.site
+      known_here = x.here ∙ d.at_site
+
+      known_old : m.number < q.arrivals
+      known_old = let n : m.number < comings r.queue rows = x.came in omega (arith, came, n)
+
+      known_count : 1 ≤ count
+      known_count = counts_from_1 text (record { site = m.site; number = m.number; count = count }) known_read
+
     -- a delete by a receipt that was given, or is yet to come
     module _ (m : MessageId) (count : ℕ) (here : m.site ≡ q.site) (old : m.number < q.arrivals) (first : 1 ≤ count) where
       abbrev by : Receipt
@@ -166,13 +180,8 @@ module _ (s : Scenario) (v : All IsQueueSettings s.queues) where
     deletes_by : is_delete r.kind ≡ true → (m : MessageId) (count : ℕ) → Known rows r m count → r.answer ≡ delete_answer (fifo_at s r) rows m count
     deletes_by t m count x =
         let a : AsksDelete key q r = asked_by key q r r.kind t d.asked in
-        let same : receipts.Given x.text ≡ receipts.Given a.text = sym x.given ∙ a.given in
-        let text : x.text ≡ a.text = cc in
-        let read : read_receipt a.text ≡ Some (record { site = m.site; number = m.number; count = count }) = ap read_receipt (sym text) ∙ x.read in
-        let here : m.site ≡ q.site = x.here ∙ d.at_site in
-        let old : m.number < q.arrivals = let n : m.number < comings r.queue rows = x.came in omega (arith, came, n) in
-        a.by (record { site = m.site; number = m.number; count = count }) read
-        ∙ told_as m count here old (counts_from_1 a.text (record { site = m.site; number = m.number; count = count }) read) q.settings.kind
+        a.by (record { site = m.site; number = m.number; count = count }) (known_read m count x a.text a.given)
+        ∙ told_as m count (known_here m count x a.text a.given) (known_old m count x a.text a.given) (known_count m count x a.text a.given) q.settings.kind
         ∙ ap (λ b. delete_answer b rows m count) (sym fifo_is)
 
     -- a change
@@ -242,13 +251,8 @@ module _ (s : Scenario) (v : All IsQueueSettings s.queues) where
     changes_by : is_change r.kind ≡ true → (m : MessageId) (count : ℕ) → Known rows r m count → (r.answer ≡ change_answer rows m count) ⊎ (r.answer ≡ answers.Refused refusals.BadTimeout)
     changes_by t m count x =
         let a : AsksChange key q r = changed_by key q r r.kind t d.asked in
-        let same : receipts.Given x.text ≡ receipts.Given a.text = sym x.given ∙ a.given in
-        let text : x.text ≡ a.text = cc in
-        let read : read_receipt a.text ≡ Some (record { site = m.site; number = m.number; count = count }) = ap read_receipt (sym text) ∙ x.read in
-        let here : m.site ≡ q.site = x.here ∙ d.at_site in
-        let old : m.number < q.arrivals = let n : m.number < comings r.queue rows = x.came in omega (arith, came, n) in
-        let told : r.answer ≡ changed_answer (change q key.at (record { site = m.site; number = m.number; count = count }) a.timeout).0 = a.by (record { site = m.site; number = m.number; count = count }) read in
-        elim (change_answers m count a.timeout here old (counts_from_1 a.text (record { site = m.site; number = m.number; count = count }) read)) as (λ _. (r.answer ≡ change_answer rows m count) ⊎ (r.answer ≡ answers.Refused refusals.BadTimeout)) [
+        let told : r.answer ≡ changed_answer (change q key.at (record { site = m.site; number = m.number; count = count }) a.timeout).0 = a.by (record { site = m.site; number = m.number; count = count }) (known_read m count x a.text a.given) in
+        elim (change_answers m count a.timeout (known_here m count x a.text a.given) (known_old m count x a.text a.given) (known_count m count x a.text a.given)) as (λ _. (r.answer ≡ change_answer rows m count) ⊎ (r.answer ≡ answers.Refused refusals.BadTimeout)) [
           | inl e ↦ inl (told ∙ e)
           | inr e ↦ inr (told ∙ e)
         ]

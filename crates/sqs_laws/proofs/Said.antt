@@ -2,7 +2,7 @@
 use Rattle.std.specs.List.{list_any, sum_by}
 use Rattle.std.specs.Prelude.{All, Bool, List, None, Option, Some, [], cond, count_by, false, is_none, true, ℕ, ◌&&◌, ◌+◌, ◌++◌, ◌<◌, ◌==◌, ◌∷◌, ◌≡◌, ◌≢◌, ◌≤◌, ◌||◌}
 use Rattle.std.proofs.Common.{ap, arith, refl, subst, sym, ◌∙◌}
-use Rattle.std.proofs.Math.Bool.{and-true, or-false}
+use Rattle.std.proofs.Math.Bool.{and-false, and-true, or-false, or-true}
 use Rattle.std.proofs.lemmas.Bool.{eq-eqb, eqb-true, ne_eqb}
 use Rattle.std.proofs.lemmas.Bool.Decides.{nat_tests}
 use Rattle.std.proofs.lemmas.List.Folds.{list_any-append}
@@ -37,12 +37,8 @@ names_id m i r e = ap (same_id (Some m)) e
 pub names_same : (m : MessageId) (r : Row) → r.message ≡ Some m → names m r ≡ true
 names_same m r e = names_id m m r e ∙ (rw (eq-eqb m.site m.site refl, eq-eqb m.number m.number refl) refl)
 
-pub and_false : (b : Bool) → (b && false) ≡ false
-and_false true = refl
-and_false false = refl
-
 pub names_other : (m i : MessageId) (r : Row) → r.message ≡ Some i → m.number ≢ i.number → names m r ≡ false
-names_other m i r e d = names_id m i r e ∙ ap (λ b. (m.site == i.site) && b) (ne_eqb m.number i.number d) ∙ and_false (m.site == i.site)
+names_other m i r e d = names_id m i r e ∙ ap (λ b. (m.site == i.site) && b) (ne_eqb m.number i.number d) ∙ and-false (m.site == i.site)
 
 -- a row of another queue names no message of this one
 names_apart_by : (m : MessageId) (r : Row) (o : Option MessageId) → r.message ≡ o → NamesOwn r → r.queue ≢ m.site → names m r ≡ false
@@ -57,19 +53,7 @@ names_apart m r own d = names_apart_by m r r.message refl own d
 -- what is new has not gone
 pub new_stays : (a : RowAnswer) → is_new a ≡ true → is_gone a ≡ false
 new_stays answers.New h = refl
-new_stays answers.Repeat h = cc
-new_stays answers.Ok h = cc
-new_stays answers.Wait h = cc
-new_stays answers.Empty h = cc
-new_stays answers.Deleted h = cc
-new_stays answers.Kept h = cc
-new_stays answers.Gone h = cc
-new_stays answers.Out h = cc
-new_stays answers.Visible h = cc
-new_stays answers.Expired h = cc
-new_stays answers.Completed h = cc
-new_stays answers.Failed h = cc
-new_stays (answers.Refused e) h = cc
+new_stays a h = cc
 
 -- one more row of whether a message has left, how often it was received, and how many came
 pub left_as : (m : MessageId) (rows : List Row) (r : Row) (b : Bool) → (leaves r && names m r) ≡ b → has_left m (rows ++ r ∷ []) ≡ (has_left m rows || b)
@@ -78,12 +62,8 @@ left_as m rows r b e = any_push (λ x. leaves x && names m x) rows r ∙ ap (λ 
 pub left_still : (m : MessageId) (rows : List Row) (r : Row) → (leaves r && names m r) ≡ false → has_left m (rows ++ r ∷ []) ≡ has_left m rows
 left_still m rows r e = left_as m rows r false e ∙ or-false (has_left m rows)
 
-or_true : (b : Bool) → (b || true) ≡ true
-or_true true = refl
-or_true false = refl
-
 pub left_now : (m : MessageId) (rows : List Row) (r : Row) → leaves r ≡ true → r.message ≡ Some m → has_left m (rows ++ r ∷ []) ≡ true
-left_now m rows r l e = left_as m rows r true (rw (l, names_same m r e) refl) ∙ or_true (has_left m rows)
+left_now m rows r l e = left_as m rows r true (rw (l, names_same m r e) refl) ∙ or-true (has_left m rows)
 
 pub times_as : (m : MessageId) (rows : List Row) (r : Row) (b : Bool) → (received r && names m r) ≡ b → times m (rows ++ r ∷ []) ≡ times m rows + bit b
 times_as m rows r b e = count_push (λ x. received x && names m x) rows r ∙ ap (λ y. times m rows + bit y) e

@@ -14,10 +14,7 @@ use Rattle.sqs_redrive.specs.declared.settings.Kind.{Kind}
 use Rattle.sqs_redrive.specs.declared.settings.Kind.TheVariants.{Fifo, Standard}
 use Rattle.sqs_redrive.specs.declared.settings.Policy.{Policy}
 use Rattle.sqs_redrive.specs.declared.settings.QueueSettings.{QueueSettings}
-use Rattle.sqs_model.specs.Progress.{IsSoundScenario}
-use Rattle.sqs_model.specs.Run.{IsRunOf, Run}
 use Rattle.sqs_model.specs.Scenario.{Scenario}
-use Rattle.sqs_model.specs.Valid.{IsQueueSettings}
 use Rattle.sqs_laws.specs.Words.{EachNaming, EachRow, changed, comes, comings, flying, has_left, in_flight_at, is_change, is_delete, is_gone, is_move, is_redrive, is_release, may_follow, origin_of, received, times}
 
 -- The end is the end. The messages that come to a queue are numbered from 0 on, and no row names one before it comes.
@@ -99,9 +96,9 @@ pub record Receipts (s : Scenario) (rows : List Row) : Type 0 where
       ⊎ ((r.answer ≡ answers.Refused refusals.ReceiptHandleIsInvalid)
       ⊎ (IsTrue (is_change r.kind) × (r.answer ≡ answers.Refused refusals.BadTimeout))))
 
--- In flight. A message that was received is not received or moved until it is released, and has not left. No more of a
--- queue's messages than its in_flight are in flight at once. Only such a
--- message has its timeout changed, or leaves for the dead-letter queue.
+-- In flight. A message that was received and has not left is not received or moved until it is released. Only a message
+-- in flight has its timeout changed, or leaves for the dead-letter queue. A queue never has more of its messages in
+-- flight than its in_flight.
 pub record InFlight (s : Scenario) (rows : List Row) : Type 0 where
   pub once : EachNaming rows (λ before r m. IsTrue (received r || is_move r.kind) → flying m before ≡ false)
   pub flies : EachNaming rows (λ before r m. IsTrue (changed r || is_redrive r.kind) → flying m before ≡ true)
@@ -126,9 +123,3 @@ pub record KeepsTheRules (s : Scenario) (rows : List Row) : Type 0 where
   pub receipts : Receipts s rows
   pub origins : Origins rows
   pub in_time : InTime s rows
-
--- the log of every sound scenario whose queues are in their ranges keeps the rules
-abbrev pub LogKeepsTheRules : Type 0
-LogKeepsTheRules =
-    (s : Scenario) → IsSoundScenario s → All IsQueueSettings s.queues
-    → (r : Run) → IsRunOf s r → KeepsTheRules s r.rows

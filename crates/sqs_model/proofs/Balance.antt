@@ -2,7 +2,7 @@
 use Rattle.std.specs.List.{list_any}
 use Rattle.std.specs.Prelude.{All, Bool, List, Option, Some, [], false, if◌then◌else◌, true, ℕ, ◌&&◌, ◌+◌, ◌++◌, ◌<◌, ◌==◌, ◌∷◌, ◌≡◌, ◌≢◌, ◌≤◌, ◌||◌}
 use Rattle.std.proofs.Common.{ap, arith, refl, subst, sym, ◌∙◌}
-use Rattle.std.proofs.Math.Bool.{and-true, or-false}
+use Rattle.std.proofs.Math.Bool.{and-false, and-true, or-false}
 use Rattle.std.proofs.lemmas.Bool.{and_parts, eq-eqb, eqb-true, ne_eqb, or_parts}
 use Rattle.std.proofs.lemmas.List.Folds.{list_any-append, list_any_none}
 use Rattle.std.proofs.lemmas.List.Elements.{All-push, All-weaker}
@@ -18,14 +18,10 @@ use Rattle.sqs_model.specs.Queue.{Queue, has_number, numbered, taken_out, with_c
 use Rattle.sqs_model.proofs.Counts.{all_changed, all_without, ascends_changed, ascends_push, ascends_without, total, total_push, total_without}
 use Rattle.sqs_model.proofs.Ledger.{IsEnd, IsNews, IsPast, bit, end_of, ended, ended_push, ends_by, ends_same, first_in, first_or, first_push, first_silent, given_by, given_push, given_silent, id_at, marks, same_id_swap}
 
-and_false : (b : Bool) → (b && false) ≡ false
-and_false true = refl
-and_false false = refl
-
 -- ids of one site with different numbers, and of different sites
 past_id : (site n k : ℕ) → n < k → same_id (id_at site n) (id_at site k) ≡ false
 past_id site n k l =
-    ap (λ b. (site == site) && b) (ne_eqb n k (λ (e : n ≡ k). absurd (omega arith))) ∙ and_false (site == site)
+    ap (λ b. (site == site) && b) (ne_eqb n k (λ (e : n ≡ k). absurd (omega arith))) ∙ and-false (site == site)
 
 other_id : (site n j k : ℕ) → j ≢ site → same_id (id_at site n) (id_at j k) ≡ false
 other_id site n j k h = ap (λ b. b && (n == k)) (ne_eqb site j (λ (e : site ≡ j). h (sym e)))
@@ -120,7 +116,7 @@ module _ (o : Origin) (top : ℕ) (base : List Row) where
 
   -- a row that gives the next id its origin
   news_told : (rows : List Row) (r : Row) (i j : Option MessageId) → r.message ≡ i → same_id i j ≡ false → given_by o (rows ++ r ∷ []) j ≡ given_by o rows j
-  news_told rows r i j e d = given_push o rows r j (ap (λ x. tells o r && same_id x j) e ∙ ap (λ b. tells o r && b) d ∙ and_false (tells o r))
+  news_told rows r i j e d = given_push o rows r j (ap (λ x. tells o r && same_id x j) e ∙ ap (λ b. tells o r && b) d ∙ and-false (tells o r))
 
   news_ends : (rows : List Row) (r : Row) (site n : ℕ) → r.message ≡ id_at site n → (x : Row) → IsPast o site n x → end_of o (rows ++ r ∷ []) x ≡ end_of o rows x
   news_ends rows r site n e x p =

@@ -98,7 +98,7 @@ pub record CallLaw (key : Key) : Type 1 where
   -- nothing happens; a row that names no message, with any change of the site that keeps the law
   pub nothing : (p : Past) (c : Core) → At p c → Goes p (no_effect c)
   pub quiet : (p : Past) (c d : Core) (r : Row) → IsNameless key c r → At p c → At p d → Goes p (says d r)
-  -- what is told of messages that were received
+  -- what a consumer learns of messages that it received
   pub Hears : Core → List Got → Type 0
   pub hears_none : (c : Core) → Hears c []
   -- calls of a queue, each with its rows

@@ -1,5 +1,5 @@
--- Laws of a handling told by single changes of a site: what a call gives is told by its rows, one after another. Each is a law by
--- calls, so one walk serves them all.
+-- Laws of a handling by single changes of a site: a call gives its rows one after another, and each row is a change.
+-- Each such law is a law by calls, so one walk serves them all.
 use Rattle.std.specs.List.{list_any}
 use Rattle.std.specs.Prelude.{Bool, Err, List, None, Ok, Option, Result, Some, [], false, find, if◌then◌else◌, map, suc, true, unwrap_or, zero, ℕ, ◌-◌, ◌/◌, ◌+◌, ◌==◌, ◌∷◌, ◌≡◌}
 use Rattle.std.proofs.Common.{refl}

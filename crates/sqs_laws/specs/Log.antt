@@ -1,0 +1,13 @@
+-- Of which scenarios the log keeps the rules.
+use Rattle.std.specs.Prelude.{All}
+use Rattle.sqs_model.specs.Progress.{IsSoundScenario}
+use Rattle.sqs_model.specs.Run.{IsRunOf, Run}
+use Rattle.sqs_model.specs.Scenario.{Scenario}
+use Rattle.sqs_model.specs.Valid.{IsQueueSettings}
+use Rattle.sqs_laws.specs.Laws.{KeepsTheRules}
+
+-- the log of every sound scenario whose queues are in their ranges keeps the rules
+abbrev pub LogKeepsTheRules : Type 0
+LogKeepsTheRules =
+    (s : Scenario) → IsSoundScenario s → All IsQueueSettings s.queues
+    → (r : Run) → IsRunOf s r → KeepsTheRules s r.rows
