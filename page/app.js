@@ -1,4 +1,30 @@
-// The page: puts the parts together. DATA, which tools/page writes, has the examples, the keys and the versions.
+// @ts-check
+// The page: puts the parts together.
+
+import { showAnswer } from './answer.js';
+import { Curve } from './curve.js';
+import { buttonById, byId, count, detailsById, element, inputById, saveAs, selectById, setText } from './dom.js';
+import { Editor, isShort } from './editor.js';
+import { withValue } from './edits.js';
+import { EXAMPLES, FIRST } from './facts.js';
+import { Fault, versionOf } from './faults.js';
+import { keepChoice, kept } from './kept.js';
+import { linkOf, linkedIn } from './link.js';
+import { LogView } from './log_view.js';
+import { NetworkView } from './network_view.js';
+import { NumberPanel, written } from './numbers.js';
+import { Pictures } from './pictures.js';
+import { Player } from './player.js';
+import { Requirement } from './require.js';
+import { Scenario, said } from './scenario.js';
+import { Seeds } from './seeds.js';
+import { Side } from './side.js';
+import { lossOf, showTables } from './tables.js';
+import { duration, fixed, grouped, several } from './units.js';
+
+/** @typedef {import('./link.js').File} File */
+/** @typedef {import('./answer.js').Tile} Tile */
+/** @typedef {import('./scenario.js').Item} Item */
 
 // So long the page waits after a change before it runs again what took long.
 const PAUSE = 350;
@@ -7,17 +33,32 @@ const LONG = 500;
 // The log and the link follow so long after the pictures, so that a slider moves them alone.
 const SETTLED = 100;
 
-const EXAMPLES = DATA.examples;
-let sides = [], active = null, timer = null, settling = null, linked = 0;
+/** @type {Side[]} */
+let sides = [];
+// The variant that is edited; there is none before the first text is opened.
+/** @type {Side} */
+let active;
+/** @type {number | undefined} */
+let timer;
+/** @type {number | undefined} */
+let settling;
+let linked = 0;
 // The number whose slider moves, the tiles of before it began to, and those that are shown.
-let sliding = null, before = null, tiles = null;
+/** @type {string | null} */
+let sliding = null;
+/** @type {Tile[] | null} */
+let before = null;
+/** @type {Tile[] | null} */
+let tiles = null;
 // Whether the address keeps a link that could not be opened, until the reader changes or opens something.
 let isKept = false;
 
 const editor = new Editor(text => edited(text, 'typed'));
 const numbers = new NumberPanel(changeNumber, slider => { if (active.isDone) curve.begin(slider, active); });
 const require = new Requirement(() => showAgain());
-const pictures = new Pictures(require);
+const network = new NetworkView((kind, names) => numbers.open(kind, names));
+const pictures = new Pictures(require, network);
+const player = new Player(pictures);
 const curve = new Curve(require, (slider, value) => slider.choose(value));
 const seeds = new Seeds(() => {
   showAgain();
@@ -26,6 +67,7 @@ const seeds = new Seeds(() => {
 const log = new LogView();
 
 // A change of the text of the variant that is edited: it runs at once if the last run was quick.
+/** @param {string} text @param {'typed' | 'slid'} how */
 function edited(text, how) {
   active.text = text;
   releaseLink();
@@ -34,7 +76,7 @@ function edited(text, how) {
     [sliding, before] = [null, null];
   }
   tellDifference();
-  if (!byId('live').checked) {
+  if (!inputById('live').checked) {
     setText(byId('waits'), '');
     setText(byId('status'), 'The text has changed: Run shows what comes out.');
     return;
@@ -45,6 +87,7 @@ function edited(text, how) {
 }
 
 // Runs variants by themselves; says why if one of them waits for a press of Run, and ends what runs.
+/** @param {...Side} chosen */
 function runAlone(...chosen) {
   const why = chosen.map(side => side.whyWaits).find(it => it);
   if (!why) {
@@ -59,6 +102,7 @@ function runAlone(...chosen) {
 }
 
 // The numbers of the text that is edited, and whether its version is a preview; a long text has none.
+/** @param {boolean} isFresh */
 function showNumbers(isFresh) {
   const scenario = editor.isShort ? new Scenario(editor.text) : null;
   setText(byId('preview-note'), scenario && versionOf(scenario) > 2
@@ -67,8 +111,9 @@ function showNumbers(isFresh) {
   else numbers.clear();
 }
 
-// A slider has been moved: the numbers at these places get a value. Of a pair of bounds the other one goes along, so that
-// the first is not above the second.
+// A slider has been moved: the numbers at these places get a value. Of a pair of bounds the other one goes along, so
+// that the first is not above the second.
+/** @param {string[]} places @param {number} value */
 function changeNumber(places, value) {
   const slider = places.join();
   if (sliding !== slider) [sliding, before] = [slider, tiles];
@@ -77,36 +122,13 @@ function changeNumber(places, value) {
   edited(editor.text, 'slid');
 }
 
-// The text with a value at these places, and where it has to be at the other one of a pair of bounds.
-function withValue(text, places, value) {
-  const scenario = new Scenario(text), values = new Map(places.map(place => [place, value]));
-  for (const place of places) {
-    const isLow = place.endsWith('_min_ms');
-    const pair = isLow ? place.replace(/_min_ms$/, '_max_ms') : place.replace(/_max_ms$/, '_min_ms');
-    const other = pair === place ? null : nodeAt(scenario, pair);
-    if (other && (isLow ? Number(other.value) < value : Number(other.value) > value)) values.set(pair, value);
-  }
-  return withNumbers(text, values);
-}
-
-// The text with numbers at their places.
-function withNumbers(text, values) {
-  const scenario = new Scenario(text);
-  const edits = [...values].map(([place, value]) => [nodeAt(scenario, place), value]).filter(([node]) => node)
-    .sort(([a], [b]) => b.from - a.from);
-  return edits.reduce((made, [{ from, to }, value]) => `${made.slice(0, from)}${value}${made.slice(to)}`, text);
-}
-
-function nodeAt(scenario, place) {
-  const match = PLACE.exec(place);
-  const table = match ? scenario.items(match[1])[Number(match[2])] : scenario.top;
-  return table?.value.get(match ? match[3] : place);
-}
-
 // Each number, text and word of a scenario by its place, for what differs between two.
+/** @param {string} text @returns {Map<string, string>} */
 function placesIn(text) {
-  const scenario = new Scenario(text), found = new Map();
-  const take = (table, title) => {
+  /** @type {Map<string, string>} */
+  const found = new Map();
+  const scenario = new Scenario(text);
+  const take = (/** @type {Item} */ table, /** @type {string} */ title) => {
     for (const [key, node] of table.value) {
       if (['table', 'list'].includes(node.type)) continue;
       found.set(`${key}${title}`, node.type === 'integer' && node.value < 2n ** 53n ? written(key, Number(node.value))
@@ -131,7 +153,9 @@ function tellDifference() {
     setText(byId('difference'), 'The texts are long, so their differences are not listed.');
     return;
   }
-  const [before, after] = sides.map(side => placesIn(side.text)), changes = [];
+  const [before, after] = sides.map(side => placesIn(side.text));
+  /** @type {string[]} */
+  const changes = [];
   for (const key of new Set([...before.keys(), ...after.keys()])) {
     const [a, b] = [before, after].map(found => found.get(key)?.slice(0, 40) ?? 'none');
     if (before.get(key) !== after.get(key)) changes.push(`${key}: ${a} → ${b}`);
@@ -141,8 +165,9 @@ function tellDifference() {
 }
 
 // What is shown as a run begins or ends.
+/** @param {Side} side */
 function changed(side) {
-  byId('stop').disabled = !sides.some(it => it.isRunning);
+  buttonById('stop').disabled = !sides.some(it => it.isRunning);
   seeds.stop();
   if (side.isRunning) {
     setText(byId('waits'), '');
@@ -156,14 +181,17 @@ function changed(side) {
 }
 
 // Greys what is shown, if it is not what comes out of the text.
+/** @param {boolean} isStale */
 function setStale(isStale) {
-  for (const id of ['results', 'more-outputs', 'answer', 'tiles']) byId(id).classList.toggle('stale', isStale);
+  for (const id of ['results', 'more-outputs', 'answer', 'tiles', 'glance-picture']) {
+    byId(id).classList.toggle('stale', isStale);
+  }
 }
 
 function tickWhileRunning() {
   const running = sides.find(side => side.isRunning);
   if (!running) return;
-  const seconds = (performance.now() - running.began) / 1000;
+  const seconds = (performance.now() - (running.began ?? 0)) / 1000;
   if (seconds * 1000 > LONG) {
     setText(byId('status'), `Running for ${Math.floor(seconds)} s. Stop, or the key Escape, ends it.`);
   }
@@ -174,13 +202,14 @@ function tickWhileRunning() {
 function showFault() {
   const box = byId('fault'), isRefused = active.result && active.result.code !== 0 && active.ran === active.text;
   box.hidden = !isRefused;
-  if (!isRefused) {
+  if (!isRefused || !active.result) {
     editor.markFault(null);
     return;
   }
   const names = active.files.map(({ name }) => name);
   const fault = new Fault(active.text, active.result.line, names), { place } = fault;
   editor.markFault(place);
+  /** @type {HTMLElement[]} */
   const parts = [element('strong', { textContent: fault.reason }),
     element('code', { textContent: active.result.line })];
   if (place) {
@@ -189,6 +218,8 @@ function showFault() {
       onclick: () => {
         showText(true);
         editor.goTo(...place);
+        // the fault and the text below it
+        byId('drawer').scrollIntoView({ block: 'nearest' });
       } }));
   }
   box.replaceChildren(...parts);
@@ -202,14 +233,16 @@ async function showAll() {
   if (!isCurrent) return;
   const loss = lossOf(done);
   byId('loss').hidden = !loss;
-  setText(byId('loss'), loss && loss[0].toUpperCase() + loss.slice(1));
+  setText(byId('loss'), loss.slice(0, 1).toUpperCase() + loss.slice(1));
   byId('results').hidden = byId('more-outputs').hidden = false;
   clearTimeout(settling);
   tiles = showAnswer(done, before, require);
   curve.draw();
+  // the worker counts what is drawn while the tables are made
+  const isDrawn = pictures.show(done);
   showTables(done);
   byId('differences').hidden = done.length < 2;
-  await pictures.show(done);
+  await isDrawn;
   settling = setTimeout(settle, SETTLED);
 }
 
@@ -230,25 +263,21 @@ function showAgain() {
   pictures.show(sides);
 }
 
-// Counts what has been shown, for those who wait for it.
-function count(what) {
-  document.body.dataset[what] = String(Number(document.body.dataset[what] ?? 0) + 1);
-}
-
+/** @param {Side[]} refused */
 function statusOf(refused) {
   if (refused.length) {
     const side = refused[0], name = sides.length > 1 ? `${side.name}: ` : '';
     if (side.error) return `${name}${side.error}`;
     return side.result ? `${name}The scenario is refused; below is what came out before.` : '';
   }
-  return sides.map(({ name, result }) => `${sides.length > 1 ? `${name}: ` : ''}`
+  return sides.map(({ name, outcome: result }) => `${sides.length > 1 ? `${name}: ` : ''}`
     + `${several(result.starts.length, 'row')}, the last at ${duration(result.last ?? 0)}, in `
     + `${fixed(result.took / 1000, 3)} s`).join('; ');
 }
 
 function showLog() {
-  const choice = byId('log-side');
-  choice.parentElement.hidden = sides.length < 2;
+  const choice = selectById('log-side');
+  if (choice.parentElement) choice.parentElement.hidden = sides.length < 2;
   choice.replaceChildren(...sides.map(({ name }) => element('option', { value: name, textContent: name,
     selected: name === log.side?.name })));
   log.show(sides.find(({ name }) => name === choice.value) ?? sides[0]);
@@ -257,7 +286,7 @@ function showLog() {
 // Puts the link to the scenarios into the address of the page, but for one that is kept; gives the link.
 async function showLink() {
   const link = await linkOf(sides.map(side => side.text), sides[0].files), status = byId('link-status');
-  byId('copy').disabled = !link;
+  buttonById('copy').disabled = !link;
   if (!link) setText(status, 'The scenario is too long for a link: save it as a file.');
   else setText(status, '');
   if (isKept) return link;
@@ -271,7 +300,7 @@ async function showLink() {
 }
 
 async function copyLink() {
-  const link = await showLink(), field = byId('link');
+  const link = await showLink(), field = inputById('link');
   if (!link) return;
   field.value = location.href.split('#')[0] + link;
   try {
@@ -286,6 +315,7 @@ async function copyLink() {
 }
 
 // Opens texts, as variant A or as A and B, with script files for both, and runs them.
+/** @param {string[]} texts @param {File[]} files @param {number | null} example */
 function open(texts, files = [], example = null) {
   releaseLink();
   showAsked(example);
@@ -294,12 +324,13 @@ function open(texts, files = [], example = null) {
 }
 
 // Puts texts and files in the place of all.
+/** @param {string[]} texts @param {File[]} files */
 function put(texts, files) {
   for (const side of sides) side.stop('');
   clearTimeout(timer);
   sides = texts.map((text, i) => Object.assign(new Side('AB'[i], changed), { text, files }));
   curve.close();
-  edit(sides.at(-1));
+  edit(sides[sides.length - 1]);
   pictures.zoom = null;
   [sliding, before] = [null, null];
   tellFiles();
@@ -311,8 +342,8 @@ async function openLink() {
   const { hash } = location;
   if (hash.length < 2 || byId(hash.slice(1))) return false;
   const { fault, texts, files } = await linkedIn(hash);
-  if (!fault) {
-    open(texts, files);
+  if (fault === undefined) {
+    open(texts ?? [], files);
     return true;
   }
   isKept = true;
@@ -339,10 +370,11 @@ function tellFiles() {
 
 // Opens files: a scenario, or two as variants, with their scripts; or scripts alone for the scenario that is there.
 // Those of several whose names end with .toml are scenarios; a single one is a script if it is a .csv or asked for.
+/** @param {globalThis.File[]} chosen */
 async function openFiles(chosen) {
   const asked = new Scenario(active.text).items('actor').map(actor => said(actor, 'script'));
-  const isToml = ({ name }) => /\.toml$/i.test(name);
-  const isScript = ({ name }) => /\.csv$/i.test(name) || asked.includes(name);
+  const isToml = (/** @type {globalThis.File} */ { name }) => /\.toml$/i.test(name);
+  const isScript = (/** @type {globalThis.File} */ { name }) => /\.csv$/i.test(name) || asked.includes(name);
   const scenarios = chosen.some(isToml) ? chosen.filter(isToml) : chosen.filter(file => !isScript(file));
   if (scenarios.length > 2) {
     setText(byId('status'), 'At most two scenarios are opened at once, as variants.');
@@ -355,6 +387,7 @@ async function openFiles(chosen) {
 }
 
 // Puts script files beside the scenarios, in place of those of the same names.
+/** @param {File[]} scripts */
 function addScripts(scripts) {
   const kept = sides[0].files.filter(({ name }) => !scripts.some(script => script.name === name));
   for (const side of sides) side.files = [...kept, ...scripts];
@@ -363,14 +396,20 @@ function addScripts(scripts) {
   runAlone(...sides);
 }
 
+// The choices of the variant to edit.
+function variantChoices() {
+  return /** @type {HTMLInputElement[]} */ ([...document.querySelectorAll('[name=variant]')]);
+}
+
 // Shows a variant in the editor.
+/** @param {Side} side */
 function edit(side) {
   active = side;
   editor.open(side.text);
   showNumbers(true);
   byId('variants').hidden = sides.length < 2;
   byId('compare').hidden = sides.length > 1;
-  for (const it of document.querySelectorAll('[name=variant]')) it.checked = it.value === side.name;
+  for (const it of variantChoices()) it.checked = it.value === side.name;
   tellDifference();
   if (side.result) showFault();
 }
@@ -385,15 +424,17 @@ function compare() {
 
 // Saves the differences of the two variants that are shown, as the program's `compare` prints them.
 async function saveDifferences() {
-  const [first] = sides, texts = sides.map(({ ran }) => ran);
+  const [first] = sides, texts = sides.map(({ ran }) => ran ?? '');
   const { code, bytes, line, isSecond, error } = await first.ask({ texts, files: first.files });
   if (code === 0) saveAs('differences.csv', [bytes], 'text/csv');
   else setText(byId('status'), error ?? `${isSecond ? 'B' : 'A'}: ${line}`);
 }
 
 // Keeps one of two variants, as A.
+/** @param {string} name */
 function keep(name) {
   const kept = sides.find(side => side.name === name);
+  if (!kept) return;
   for (const side of sides) if (side !== kept) side.stop('');
   releaseLink();
   kept.name = 'A';
@@ -406,7 +447,7 @@ function keep(name) {
 // The questions as cards, each of which opens the first of its examples.
 function showQuestions() {
   // on a narrow screen the cards would hide what comes out
-  byId('questions').open = !matchMedia('(max-width: 1199px)').matches;
+  detailsById('questions').open = !matchMedia('(max-width: 1199px)').matches;
   byId('cards').replaceChildren(...[...new Set(EXAMPLES.map(({ question }) => question))].map(question => {
     const number = EXAMPLES.findIndex(example => example.question === question), { version } = EXAMPLES[number];
     return element('button', { type: 'button', className: 'question', onclick: () => openExample(number) },
@@ -415,18 +456,20 @@ function showQuestions() {
 }
 
 // Opens an example, and shows the question that it is about.
+/** @param {number} number */
 function openExample(number) {
-  if (matchMedia('(max-width: 1199px)').matches) byId('questions').open = false;
+  if (matchMedia('(max-width: 1199px)').matches) detailsById('questions').open = false;
   open([EXAMPLES[number].text], [], number);
 }
 
 // Shows the question of an example with a button for each of its variants; null is no example.
+/** @param {number | null} number */
 function showAsked(number) {
-  const asked = EXAMPLES[number] ?? null;
+  const asked = number === null ? null : EXAMPLES[number];
   byId('asked').hidden = !asked;
   numbers.ask(asked?.varies ?? []);
   for (const card of byId('cards').children) {
-    card.setAttribute('aria-pressed', String(asked !== null && card.firstChild.data === asked.question));
+    card.setAttribute('aria-pressed', String(asked !== null && card.firstChild?.textContent === asked.question));
   }
   if (!asked) return;
   setText(byId('asked-title'), asked.question);
@@ -438,6 +481,7 @@ function showAsked(number) {
 }
 
 // Shows the text of the scenario, or folds it away.
+/** @param {boolean} isShown */
 function showText(isShown) {
   byId('drawer').hidden = !isShown;
   // the fault stands beside the text, or on top
@@ -447,12 +491,13 @@ function showText(isShown) {
   keepChoice('text', isShown ? 'shown' : 'hidden');
 }
 
+/** @param {string} name */
 const titleOf = name => name.replace(/[.]toml$/, '').replaceAll('_', ' ');
 
 // Keeps the tiles, and the inputs as far as they fit, in view as the page scrolls: the lower end of inputs that are
 // longer than the window comes into view with the page, so that there is one scroll bar alone.
 function keepInView() {
-  const tall = byId('tiles').offsetHeight, { style } = document.documentElement;
+  const tall = byId('glance').offsetHeight, { style } = document.documentElement;
   style.setProperty('--tiles', `${tall}px`);
   style.setProperty('--inputs', `${Math.min(tall + 8, innerHeight - byId('inputs').offsetHeight)}px`);
 }
@@ -460,34 +505,39 @@ function keepInView() {
 async function start() {
   showQuestions();
   showText(kept('text') === 'shown');
-  const first = EXAMPLES.findIndex(({ folder, name }) => `${folder}/${name}` === DATA.first);
+  detailsById('network').open = kept('network') !== 'hidden';
+  const first = EXAMPLES.findIndex(({ folder, name }) => `${folder}/${name}` === FIRST);
   if (!await openLink()) openExample(first);
 }
 
 const sizes = new ResizeObserver(keepInView);
-for (const id of ['tiles', 'inputs']) sizes.observe(byId(id));
+for (const id of ['glance', 'inputs']) sizes.observe(byId(id));
 window.addEventListener('resize', keepInView);
+byId('moment').addEventListener('input', () => player.stop());
+byId('network').addEventListener('toggle', () =>
+  keepChoice('network', detailsById('network').open ? 'shown' : 'hidden'));
 byId('show-text').onclick = () => {
   showText(byId('drawer').hidden);
   if (!byId('drawer').hidden) editor.open(editor.text);
 };
-byId('file').onchange = async ({ target }) => {
-  if (target.files.length) await openFiles([...target.files]);
-  target.value = '';
+inputById('file').onchange = async () => {
+  const input = inputById('file');
+  if (input.files?.length) await openFiles([...input.files]);
+  input.value = '';
 };
 // Files that are dropped anywhere open as those that are chosen, and so does a text that is pasted beside all fields.
 document.addEventListener('dragover', event => {
-  if (event.dataTransfer.types.includes('Files')) event.preventDefault();
+  if (event.dataTransfer?.types.includes('Files')) event.preventDefault();
 });
 document.addEventListener('drop', async event => {
-  const files = [...event.dataTransfer.files];
+  const files = [...event.dataTransfer?.files ?? []];
   if (!files.length) return;
   event.preventDefault();
   await openFiles(files);
 });
 document.addEventListener('paste', event => {
-  if (/^(INPUT|TEXTAREA)$/.test(document.activeElement?.tagName)) return;
-  const text = event.clipboardData.getData('text/plain');
+  if (/^(INPUT|TEXTAREA)$/.test(document.activeElement?.tagName ?? '')) return;
+  const text = event.clipboardData?.getData('text/plain') ?? '';
   if (text.trim()) open([text]);
 });
 // What a change has put off does not begin, or end, what is asked for here.
@@ -505,17 +555,16 @@ byId('compare').onclick = compare;
 byId('differences').onclick = saveDifferences;
 byId('keep-a').onclick = () => keep('A');
 byId('keep-b').onclick = () => keep('B');
-byId('log-side').onchange = () => log.show(sides.find(({ name }) => name === byId('log-side').value));
+selectById('log-side').onchange = () =>
+  log.show(sides.find(({ name }) => name === selectById('log-side').value) ?? sides[0]);
 byId('log-here').onclick = () => {
   log.goTo(pictures.moment);
   byId('log').focus();
 };
-for (const it of document.querySelectorAll('[name=variant]')) {
-  it.onchange = () => edit(sides.find(({ name }) => name === it.value));
-}
+for (const it of variantChoices()) it.onchange = () => edit(sides.find(({ name }) => name === it.value) ?? sides[0]);
 document.addEventListener('keydown', event => {
   if (event.key === 'Enter' && (event.ctrlKey || event.metaKey)) byId('run').click();
-  if (event.key === 'Escape' && !byId('stop').disabled) byId('stop').click();
+  if (event.key === 'Escape' && !buttonById('stop').disabled) byId('stop').click();
 });
 window.addEventListener('hashchange', async () => {
   if (linked-- > 0) return;

@@ -1,8 +1,15 @@
-// The text to edit, with its lines' numbers, colours, the marked fault, and help on the key where one types. The page
-// has this file. Below the text area, whose letters are clear, lies the same text in colours.
+// @ts-check
+// The text to edit, with its lines' numbers, colours, the marked fault, and help on the key where one types. Below the
+// text area, whose letters are clear, lies the same text in colours.
+
+import { byId, element } from './dom.js';
+import { KEYS } from './facts.js';
+import { FIRST_LISTS, NUMBER, REQUIRED, TABLES, rangeText } from './faults.js';
+
+/** @typedef {import('./facts.js').Key} Key */
 
 // Longer texts have no colours, no help and no sliders, and do not run by themselves.
-const SHORT_MOST = 200000, SHORT_LINES = 5000;
+export const SHORT_MOST = 200000, SHORT_LINES = 5000;
 const TOKEN_FORMS = [/"""[^]*?"""|'''[^]*?'''|"(?:[^"\\\n]|\\.)*"|'[^'\n]*'/, /#[^\n]*/, /^[ \t]*\[\[?[^\]\n]*\]\]?/,
   /^[ \t]*[\w-]+(?=[ \t]*=)/];
 const TOKENS = new RegExp(TOKEN_FORMS.map(({ source }) => `(${source})`).join('|'), 'gm');
@@ -10,7 +17,8 @@ const TOKEN_NAMES = ['text', 'comment', 'header', 'key'];
 const HEADER = /^\s*\[\[?\s*(queue|actor|task)\s*\]\]?/;
 
 // Whether a text is so short; no more of its lines are counted than that.
-function isShort(text) {
+/** @param {string} text */
+export function isShort(text) {
   if (text.length > SHORT_MOST) return false;
   let at = -1;
   for (let lines = 0; lines < SHORT_LINES; lines++) {
@@ -20,17 +28,19 @@ function isShort(text) {
   return false;
 }
 
-class Editor {
+export class Editor {
   // `changed` is called with the text as it changes.
+  /** @param {(text: string, how: 'typed') => void} changed */
   constructor(changed) {
-    this.area = byId('text');
+    this.area = /** @type {HTMLTextAreaElement} */ (byId('text'));
     this.colours = byId('colours');
     this.lines = byId('lines');
+    /** @type {[number, number] | null} */
     this.mark = null;
     this.area.addEventListener('input', () => {
       this.mark = null;
       this.draw();
-      changed(this.text);
+      changed(this.text, 'typed');
     });
     this.area.addEventListener('scroll', () => this.follow());
     document.addEventListener('selectionchange', () => {
@@ -49,6 +59,7 @@ class Editor {
   }
 
   // Puts another text in the place of all.
+  /** @param {string} text */
   open(text) {
     this.area.value = text;
     this.area.setSelectionRange(0, 0);
@@ -59,6 +70,7 @@ class Editor {
     this.help();
   }
 
+  /** @param {number} from @param {number} to @param {string} text */
   replace(from, to, text) {
     this.area.setRangeText(text, from, to, 'preserve');
     this.mark = null;
@@ -66,6 +78,7 @@ class Editor {
   }
 
   // Puts another text in the place of all that differs, so that one step back takes it away.
+  /** @param {string} text */
   put(text) {
     const old = this.text, most = Math.min(old.length, text.length);
     let from = 0, behind = 0;
@@ -75,14 +88,16 @@ class Editor {
   }
 
   // Marks a part of the text as faulty; null marks nothing.
+  /** @param {[number, number] | null} place */
   markFault(place) {
     this.mark = place;
     this.area.setAttribute('aria-invalid', String(place !== null));
     this.draw();
   }
 
+  /** @param {number} from @param {number} to */
   goTo(from, to) {
-    this.area.focus();
+    this.area.focus({ preventScroll: true });
     this.area.setSelectionRange(from, to);
     const height = parseFloat(getComputedStyle(this.area).lineHeight);
     this.area.scrollTop = Math.max(0, (this.lineOf(from) - 4) * height);
@@ -113,17 +128,21 @@ class Editor {
     this.colours.replaceChildren(...parts, '\n');
   }
 
+  /** @param {number} at */
   lineOf(at) {
     return this.text.slice(0, at).split('\n').length;
   }
 
+  /** @param {string} text */
   coloured(text) {
+    /** @type {(string | Node)[]} */
     const parts = [];
     let last = 0;
     for (const match of text.matchAll(TOKENS)) {
       const name = TOKEN_NAMES[match.slice(1).findIndex(group => group !== undefined)];
-      parts.push(text.slice(last, match.index), element('span', { className: `token-${name}`, textContent: match[0] }));
-      last = match.index + match[0].length;
+      const at = match.index ?? 0;
+      parts.push(text.slice(last, at), element('span', { className: `token-${name}`, textContent: match[0] }));
+      last = at + match[0].length;
     }
     parts.push(text.slice(last));
     return parts;
@@ -135,11 +154,11 @@ class Editor {
     let first = at, last = at + 1;
     while (first >= 0 && !HEADER.test(lines[first])) first--;
     while (last < lines.length && !HEADER.test(lines[last])) last++;
-    const block = lines.slice(Math.max(0, first), last), of = first >= 0 ? HEADER.exec(lines[first])[1] : '';
+    const block = lines.slice(Math.max(0, first), last), of = first >= 0 ? HEADER.exec(lines[first])?.[1] ?? '' : '';
     const kinds = /^\s*kind\s*=\s*["'](script|producer|consumer)["']/m;
     const kind = of === 'actor' ? kinds.exec(block.join('\n'))?.[1] ?? '' : '';
     const version = Number(/^\s*version\s*=\s*([123])\b/m.exec(this.text)?.[1] ?? 1);
-    const there = block.map(line => /^\s*([\w-]+)\s*=/.exec(line)?.[1]).filter(it => it);
+    const there = block.flatMap(line => /^\s*([\w-]+)\s*=/.exec(line)?.[1] ?? []);
     return { keys: KEYS[`${of}/${kind}/${version}`], what: kind || of || 'scenario', there, line: lines[at] };
   }
 
@@ -151,7 +170,7 @@ class Editor {
       help.dataset.state = '';
       return;
     }
-    const { keys, what, there, line } = this.tableAtCursor(), word = /^\s*([\w-]*)/.exec(line)[1];
+    const { keys, what, there, line } = this.tableAtCursor(), word = /^\s*([\w-]*)/.exec(line)?.[1] ?? '';
     const found = line.includes('=') && keys.find(key => key.name === word);
     const state = found ? `${what} ${word}` : `${what} ${word} ${there.join()} ${line.includes('=')}`;
     if (help.dataset.state === state) return;
@@ -159,11 +178,13 @@ class Editor {
     help.replaceChildren(...(found ? this.aboutKey(found) : this.keysToAdd(keys, what, there, word)));
   }
 
+  /** @param {Key} key */
   aboutKey(key) {
     return [element('code', { textContent: key.name }), ` ${key.about}${rangeText(key)}`,
       key.since > 2 ? ' It is new in version 3, a preview.' : ''];
   }
 
+  /** @param {Key[]} keys @param {string} what @param {string[]} there @param {string} word */
   keysToAdd(keys, what, there, word) {
     const open = keys.filter(key => key.kind !== TABLES && !there.includes(key.name) && key.name.startsWith(word));
     if (!open.length) return [`Keys of a ${what}: ${keys.map(key => key.name).join(', ')}.`];
@@ -173,19 +194,20 @@ class Editor {
   }
 
   // Writes a key with a value on the line of the cursor, or on one below it.
+  /** @param {Key} key */
   addKey(key) {
     const { area } = this, from = area.value.lastIndexOf('\n', area.selectionStart - 1) + 1;
     const end = area.value.indexOf('\n', area.selectionStart), to = end < 0 ? area.value.length : end;
     const isOver = area.value.slice(from, to).includes('=') || HEADER.test(area.value.slice(from, to));
     const first = key.default !== null && key.default !== REQUIRED ? key.default : key.kind === NUMBER ? key.low : '';
-    const value = LISTS[key.kind]?.first
+    const value = FIRST_LISTS[key.kind]
       ?? (key.kind === NUMBER || key.kind === 'true or false' ? String(first).toLowerCase() : `"${first}"`);
     const text = `${key.name} = ${value}`;
     this.replace(isOver ? to : from, to, isOver ? `\n${text}` : text);
     const start = (isOver ? to + 1 : from) + key.name.length + 3;
     area.focus();
     area.setSelectionRange(start, start + value.length);
-    this.changed(this.text);
+    this.changed(this.text, 'typed');
     this.help();
   }
 }

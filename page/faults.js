@@ -1,35 +1,45 @@
-// Says why the program refuses a scenario, and where in its text, as tools/explain does. The page has this file.
+// @ts-check
+// Says why the program refuses a scenario, and where in its text, as tools/explain does.
 //
 // KEYS has for each kind of table, as `queue//1` or `actor/producer/2`, its keys as tools/rehearse_tools/keys.py has
-// them.
+// them, and RULES what tools/rehearse_tools/explain.py says of names and of the items of lists.
 
+import { ACTORS, KEYS, RULES, SCRIPT_HEADER } from './facts.js';
+import { PLACE, Scenario, said } from './scenario.js';
+import { grouped, several } from './units.js';
+
+/** @typedef {import('./scenario.js').Item} Item */
+/** @typedef {import('./facts.js').Key} Key */
+
+/** @type {Record<string, string>} */
 const KINDS = { text: 'a text', truth: 'true or false', integer: 'a whole number', float: 'a number with a fraction',
   list: 'a list', table: 'a table', date: 'a date or time' };
-const ACTORS = ['script', 'producer', 'consumer'];
-const NUMBER = 'a whole number', TABLES = 'a list of tables';
-const REQUIRED = 'required';
-// What is in a list that is the value of a key, and the first of it that one may write.
-const LISTS = { 'a list of whole numbers': { items: 'whole numbers', first: '[1]' },
-  'a list of pairs [permille, ms]': { items: 'pairs [permille, ms]', first: '[[0, 1], [1000, 1]]' },
-  'a list of pairs [group, weight]': { items: 'pairs [group, weight]', first: '[["g", 1]]' } };
-const NAME_RULES = { queue: "A queue's name has 1 to 80 ASCII letters, digits, - and _, and for a FIFO queue .fifo at "
-  + 'its end, which counts among the 80.', other: 'A name has 1 to 80 ASCII letters, digits, - and _.' };
-const UNEXPLAINED = 'Version 3 is a preview, whose faults this page does not put into words; '
-  + './sqs_rehearse explain --preview does.';
-const SCRIPT_HEADER = 'at,call,body,group,id,delay,receipt,max,wait,timeout,task';
+export const NUMBER = 'a whole number', TABLES = 'a list of tables';
+export const REQUIRED = 'required';
+// What one may write first for a list that is the value of a key.
+/** @type {Record<string, string>} */
+export const FIRST_LISTS = { 'a list of whole numbers': '[1]', 'a list of pairs [permille, ms]': '[[0, 1], [1000, 1]]',
+  'a list of pairs [group, weight]': '[["g", 1]]' };
+const NUMBERS = 'a list of whole numbers';
+const NAME_MOST = 80, COPIES_MOST = 1000n, PREVIEW = 3;
 
 // A value for a message.
+/** @param {unknown} value */
 const shown = value => value === '' ? "''" : String(value).slice(0, 100);
 
 // The version of a scenario whose keys are looked at; that of a text without one is 1.
-function versionOf(scenario) {
+/** @param {Scenario} scenario */
+export function versionOf(scenario) {
   const version = said(scenario.top, 'version');
-  return [2n, 3n].includes(version) ? Number(version) : 1;
+  return version === 2n || version === 3n ? Number(version) : 1;
 }
 
 // How alike two words are, from 0 to 1: twice the letters of their longest common parts, of all letters.
+/** @param {string} one @param {string} other @returns {number} */
 function likeness(one, other) {
+  /** @type {(a: string, b: string) => number} */
   const common = (a, b) => {
+    /** @type {[number, number, number]} */
     let best = [0, 0, 0];
     for (let i = 0; i < a.length; i++) {
       for (let j = 0; j < b.length; j++) {
@@ -46,32 +56,50 @@ function likeness(one, other) {
 }
 
 // The nearest of some words; undefined if none is near.
+/** @param {unknown} word @param {readonly string[]} words */
 const nearestOf = (word, words) =>
-  words.map(it => [likeness(it, String(word)), it]).filter(([ratio]) => ratio >= 0.6)
-    .sort(([a, x], [b, y]) => b - a || (x < y ? 1 : -1))[0]?.[1];
+  words.map(it => ({ it, ratio: likeness(it, String(word)) })).filter(({ ratio }) => ratio >= 0.6)
+    .sort((a, b) => b.ratio - a.ratio || (a.it < b.it ? 1 : -1))[0]?.it;
+/** @param {unknown} word @param {readonly string[]} words */
 const nearest = (word, words) => {
   const found = nearestOf(word, words);
   return found ? ` Did you mean ${found}?` : '';
 };
 
-class Fault {
+export class Fault {
   // `line` is the program's, as `refused 14 OutOfRange at queue[0].delay_s`; `files` are the names of script files.
+  /** @param {string} text @param {string} line @param {string[]} files */
   constructor(text, line, files) {
     this.scenario = new Scenario(text);
     this.line = line;
     this.files = files;
     const [, , kind, , place] = /^refused ([0-9]+) ([A-Za-z]+)( at ([^]*))?/.exec(line) ?? [];
     const match = PLACE.exec(place ?? '');
-    Object.assign(this, { kind, of: match ? match[1] : '', number: match ? Number(match[2]) : 0 });
+    this.kind = kind ?? '';
+    this.of = match ? match[1] : '';
+    this.number = match ? Number(match[2]) : 0;
+    // undefined where the refusal is of a table as a whole
+    /** @type {string | undefined} */
     this.key = match ? match[3] : place ?? '';
+    /** @type {number | undefined} */
+    this.record = undefined;
     const record = match && /^(calls|script)(?::([0-9]+))?$/.exec(this.key ?? '');
-    if (record) [this.key, this.record] = [record[1], Number(record[2] ?? 0)];
+    if (record) {
+      this.key = record[1];
+      this.record = Number(record[2] ?? 0);
+    }
     this.table = match ? this.scenario.items(this.of)[this.number] : this.scenario.top;
-    const item = /^([a-z_]+)\[([0-9]+)\]$/.exec(this.key ?? '');
-    const values = this.table?.type === 'table' ? this.table.value : new Map();
-    this.node = item ? values.get(item[1])?.value?.[Number(item[2])] ?? values.get(item[1]) : values.get(this.key);
+    // the number of an item of the list at the key, or null
+    const item = match && /^(\w+)\[([0-9]+)\]$/.exec(this.key ?? '');
+    this.item = item ? Number(item[2]) : null;
+    if (item) this.key = item[1];
+    /** @type {Item | undefined} */
+    const list = this.table?.type === 'table' ? this.table.value.get(this.key) : undefined;
+    /** @type {Item | undefined} */
+    this.node = this.item === null ? list : list?.value?.[this.item] ?? list;
   }
 
+  /** @param {string} key */
   value(key) {
     return said(this.table, key);
   }
@@ -81,9 +109,10 @@ class Fault {
   }
 
   get kindOfActor() {
-    return this.of === 'actor' && ACTORS.includes(this.value('kind')) ? this.value('kind') : '';
+    return this.of === 'actor' && ACTORS.includes(String(this.value('kind'))) ? String(this.value('kind')) : '';
   }
 
+  /** @param {string} kind @param {number} version */
   keysIn(kind, version) {
     return KEYS[`${this.of}/${kind}/${version}`] ?? [];
   }
@@ -107,18 +136,20 @@ class Fault {
   }
 
   // Where the fault is in the text: its first character, and the end of what is marked; null if it has no place.
+  /** @returns {[number, number] | null} */
   get place() {
     const { text, lost } = this.scenario;
     if (this.kind === 'NotToml') return lost === null ? null : [lost, Math.max(lost, text.indexOf('\n', lost))];
-    if (this.record !== undefined && this.node?.type === 'text') return this.placeOfRecord();
+    if (this.record !== undefined && this.node?.type === 'text') return this.placeOfRecord(this.node);
     const isOfKey = this.kind === 'UnknownKey' || this.kind === 'MissingKey';
     if (this.node) return isOfKey ? [this.node.key, this.node.to] : [this.node.from, this.node.to];
     return this.of && this.table ? [this.table.key, this.table.to] : null;
   }
 
   // The place of a record of a script in the text, whose lines are those of the script if it is between three quotes.
-  placeOfRecord() {
-    const { text } = this.scenario, { from, to } = this.node;
+  /** @param {Item} node @returns {[number, number]} */
+  placeOfRecord({ from, to }) {
+    const { text } = this.scenario;
     if (!/^("""|''')/.test(text.slice(from, from + 3))) return [from, to];
     let at = from + 3;
     if (text.startsWith('\r\n', at)) at += 2;
@@ -129,34 +160,47 @@ class Fault {
       for (let isQuoted = false; at < to - 3 && (isQuoted || text[at] !== '\n'); at++) {
         if (text[at] === '"') isQuoted = !isQuoted;
       }
-      if (number === Math.max(1, this.record)) return [begin, Math.max(begin + 1, at)];
+      if (number === Math.max(1, this.record ?? 1)) return [begin, Math.max(begin + 1, at)];
     }
     return [from, to];
   }
 
   // What is wrong, in whole sentences.
   get reason() {
-    if (this.version === 3 && !['NotToml', 'BadScript'].includes(this.kind)) return UNEXPLAINED;
     const sentence = REASONS[this.kind]?.(this) ?? '';
     return sentence.startsWith(this.key || '\0') ? sentence : sentence.slice(0, 1).toUpperCase() + sentence.slice(1);
   }
 }
 
-function rangeText(key) {
+/** @param {Key | undefined} key */
+export function rangeText(key) {
   if (!key) return '';
   if (key.name === 'version') return ' It is 1 or 2, or 3, a preview, for the word --preview.';
-  if (LISTS[key.kind]) return ` It has ${key.low} to ${key.high} ${LISTS[key.kind].items}.`;
+  if (RULES.lists[key.kind]) {
+    const each = key.items ? `, each from ${grouped(key.items[0])} to ${grouped(key.items[1])}` : '';
+    return ` It has ${grouped(key.low ?? 0)} to ${grouped(key.high ?? 0)} ${RULES.lists[key.kind]}${each}.`;
+  }
   if (key.words) return ` It is ${key.words.slice(0, -1).join(', ')} or ${key.words.at(-1)}.`;
   if (key.kind === KINDS.text && key.high) return ` It has ${key.low} to ${key.high} bytes.`;
   if (key.kind !== NUMBER) return ` It is ${key.kind}.`;
-  const byDefault = [null, REQUIRED].includes(key.default) ? ''
-    : `, and ${grouped(key.default)} where it is not given`;
-  return ` It has ${grouped(key.low)} to ${grouped(key.high)}${byDefault}.`;
+  const byDefault = key.default === null || key.default === REQUIRED ? ''
+    : `, and ${grouped(String(key.default))} where it is not given`;
+  return ` It has ${grouped(key.low ?? 0)} to ${grouped(key.high ?? 0)}${byDefault}.`;
 }
 
+// The range of a key, which begins at the value of another one where that is its least.
+/** @param {Fault} fault @param {Key | undefined} key */
+function rangeBeside(fault, key) {
+  const least = key?.least ? fault.value(key.least) : undefined;
+  const isIn = typeof least === 'bigint' && key && least >= BigInt(key.low ?? 0) && least <= BigInt(key.high ?? 0);
+  if (!isIn) return rangeText(key);
+  return ` It has ${grouped(least)} to ${grouped(key.high ?? 0)}, as ${key.least} is ${grouped(least)}.`;
+}
+
+/** @param {Fault} fault */
 function unknownKey(fault) {
   const { key, found } = fault, title = fault.title();
-  if (found?.queues) {
+  if (found?.queues && (found.queues === 'FIFO') !== fault.isFifo()) {
     const other = found.queues === 'FIFO' ? 'a standard queue' : 'a FIFO queue';
     return `${key} is a key of ${found.queues} queues alone, and ${title} ${fault.of === 'queue' ? 'is' : 'is at'} `
       + `${other}.`;
@@ -165,10 +209,13 @@ function unknownKey(fault) {
     return `${title} has both calls and script; one of them is enough.`;
   }
   if (found?.beside) return `${key} stands only together with ${found.beside}, which ${title} does not have.`;
+  const other = fault.keys.find(({ name, replaces }) =>
+    replaces.includes(String(key)) && fault.value(name) !== undefined);
+  if (other) return `${title} has both ${key} and ${other.name}; ${other.name} takes its place.`;
   const of = [1, 2, 3].find(it => fault.keysIn(fault.kindOfActor, it).some(({ name }) => name === key));
   if (!found && of) {
     const latency = fault.version === 1 ? 'latency_ms' : 'latency_min_ms and latency_max_ms';
-    const wanted = key.startsWith('latency_') ? latency : 'no such key';
+    const wanted = key?.startsWith('latency_') ? latency : 'no such key';
     return `${key} is a key of version ${of}; version ${fault.version} has ${wanted}.`;
   }
   for (const kind of fault.of === 'actor' ? ACTORS : []) {
@@ -181,34 +228,78 @@ function unknownKey(fault) {
   return `${shown(key)} is no key of ${title}; it has ${names.join(', ')}.${nearest(key, names)}`;
 }
 
+/** @param {Fault} fault */
 function missingKey(fault) {
   const { key, found } = fault, title = fault.title();
   if (key === 'calls') return `${title} has neither calls nor script, and needs one of them.`;
   const beside = found?.beside ? ` beside ${found.beside}` : '';
   const at = found?.queues ? ` at a ${found.queues} queue` : '';
+  const other = fault.keys.find(({ replaces }) => replaces.includes(String(key)));
+  const instead = other ? `; ${other.name} may be there in its place` : '';
   const names = fault.keys.map(({ name }) => name);
   const unknown = fault.table?.type === 'table' ? [...fault.table.value.keys()].filter(it => !names.includes(it)) : [];
   const near = nearestOf(key, unknown);
-  return `${title} has no ${key}, which is required${beside}${at}.${rangeText(found)}`
+  return `${title} has no ${key}, which is required${beside}${at}${instead}.${rangeBeside(fault, found)}`
     + (near ? ` Is ${near} meant to be it?` : '');
 }
 
+/** @param {Fault} fault */
 function wrongType(fault) {
   const { key, found, node } = fault;
   if (key === undefined) {
-    return `Item number ${fault.number + 1} of ${fault.of} is ${KINDS[fault.table?.type]}, and has to be a table.`;
+    return `Item number ${fault.number + 1} of ${fault.of} is ${KINDS[fault.table?.type ?? '']}, and has to be a `
+      + 'table.';
+  }
+  if (fault.item !== null) {
+    const wanted = found?.kind === NUMBERS ? NUMBER : RULES.forms[found?.kind ?? ''] ?? 'of another kind';
+    return `${itemText(fault)}, and has to be ${wanted}.`;
   }
   const isTables = found?.kind === TABLES;
   const hint = found?.kind === NUMBER && node?.type === 'text' && /^\s*[0-9]+\s*$/.test(node.value)
     ? ' A number stands without quotes.' : isTables ? ` Each begins with [[${key}]].` : '';
-  return `${key} of ${fault.title()} is ${KINDS[node?.type]}, and has to be ${found?.kind ?? 'of another kind'}.${hint}`
+  const wanted = found?.kind ?? 'of another kind';
+  return `${key} of ${fault.title()} is ${KINDS[node?.type ?? '']}, and has to be ${wanted}.${hint}`
     + (found && !isTables ? rangeText(found) : '');
 }
 
+// A value of TOML in one line; a long one is cut.
+/** @param {Item} node @returns {string} */
+function tomlOf(node) {
+  const inTables = (/** @type {Map<string, Item>} */ table) =>
+    [...table].map(([key, value]) => `${key} = ${tomlOf(value)}`).join(', ');
+  if (node.type === 'text') return JSON.stringify(node.value);
+  if (node.type === 'list') return `[${node.value.map(tomlOf).join(', ')}]`;
+  return node.type === 'table' ? `{${inTables(node.value)}}` : String(node.value);
+}
+
+// An item of a list, as it begins a sentence.
+/** @param {Fault} fault */
+const itemText = fault => `Item number ${(fault.item ?? 0) + 1} of ${fault.key} of ${fault.title()} is `
+  + (fault.node ? shown(tomlOf(fault.node)) : '');
+
+/** @param {Fault} fault */
+function itemOutOfRange(fault) {
+  const { found } = fault;
+  const range = found?.kind === NUMBERS && found.items
+    ? rangeText({ ...found, kind: NUMBER, low: found.items[0], high: found.items[1] }).trim()
+    : RULES.rules[found?.kind ?? ''] ?? '';
+  return `${itemText(fault)}. ${range}`;
+}
+
+// A list with too few or too many items.
+/** @param {Fault} fault */
+function wrongLength(fault) {
+  const { key, found, node } = fault;
+  return `${key} of ${fault.title()} has ${several(node?.value?.length ?? 0, 'item')}.${rangeText(found)}`;
+}
+
+/** @param {Fault} fault */
 function outOfRange(fault) {
   const { key, found, node } = fault, value = shown(node?.value);
   const text = fault.of ? `${key} of ${fault.title()} is ${value}.` : `${key} is ${value}.`;
   if (key === 'queue' && !fault.of) return 'A scenario has at least one queue.';
+  if (fault.item !== null) return itemOutOfRange(fault);
+  if (RULES.lists[found?.kind ?? '']) return wrongLength(fault);
   if (key === 'kind') return `${text}${rangeText(found ?? KEYS['actor//1'][1])}${nearest(value, ACTORS)}`;
   if (key === 'body') return `${text} It has 1 byte at least for the first message, and 1,024 at most for the last.`;
   if (key === 'script') {
@@ -217,27 +308,65 @@ function outOfRange(fault) {
   if (key === 'sampled') return `${text} It has 1 to hosts, which is ${fault.value('hosts') ?? 1}.`;
   const least = found?.least && fault.value(found.least);
   if (typeof least === 'bigint' && typeof node?.value === 'bigint' && node.value < least) {
-    return `${text} It may not be less than ${found.least}, which is ${grouped(least)}.`;
+    return `${text} It may not be less than ${found?.least}, which is ${grouped(least)}.`;
   }
-  return `${text}${rangeText(found)}${found?.words ? nearest(value, found.words) : ''}`;
+  return `${text}${rangeBeside(fault, found)}${found?.words ? nearest(value, found.words) : ''}`;
 }
 
-function nameTwice(fault) {
-  const name = fault.value('name'), { scenario } = fault;
+// The names of the copies of an actor's table, if it has some.
+/** @param {Fault} fault @param {Item | undefined} item @returns {string[]} */
+function copiesOf(fault, item) {
+  const count = said(item, 'copies');
+  const isCount = typeof count === 'bigint' && count >= 1n && count <= COPIES_MOST;
+  return fault.version < PREVIEW || said(item, 'kind') !== 'consumer' || !isCount ? []
+    : Array.from({ length: Number(count) }, (_, i) => `${said(item, 'name')}-${i + 1}`);
+}
+
+/** @param {Fault} fault */
+function badName(fault) {
+  const value = String(fault.value('name'));
+  if (fault.key !== 'copies') {
+    return `The name ${shown(value)} will not do. ${RULES.names[fault.of === 'queue' ? 'queue' : 'actor']}`;
+  }
+  const longest = copiesOf(fault, fault.table).reduce((long, name) => name.length > long.length ? name : long, '');
+  return `The name ${shown(longest)} of a copy has ${longest.length} characters, and may have ${NAME_MOST}.`;
+}
+
+// What has each name that the tables before the place of the fault have.
+/** @param {Fault} fault */
+function takenBefore(fault) {
+  /** @type {Map<unknown, string>} */
+  const taken = new Map(), { scenario } = fault;
   for (const of of ['queue', 'actor', 'task']) {
     for (const [number, item] of scenario.items(of).entries()) {
-      if (said(item, 'name') === name && (of !== fault.of || number !== fault.number)) {
-        const [line] = scenario.lineAndColumn(item.value.get('name').key);
-        return `The ${of} in line ${line} has the name ${name} already; queues, actors and tasks share their names.`;
-      }
+      if (of === fault.of && number === fault.number) return taken;
+      const name = said(item, 'name'), has = (/** @type {string} */ it, /** @type {string} */ what) =>
+        taken.has(it) || taken.set(it, what);
+      if (typeof name !== 'string') continue;
+      const [line] = scenario.lineAndColumn(item.value.get('name').key);
+      has(name, `The ${of} in line ${line}`);
+      if (of === 'actor') for (const copy of copiesOf(fault, item)) has(copy, `A copy of the consumer in line ${line}`);
     }
   }
-  return `The name ${name} stands twice.`;
+  return taken;
 }
 
+/** @param {Fault} fault */
+function nameTwice(fault) {
+  const taken = takenBefore(fault);
+  const names = fault.key === 'name' ? [fault.value('name')] : copiesOf(fault, fault.table);
+  const name = [...taken.keys()].find(it => names.includes(it));
+  return name === undefined ? `The name ${names[0]} stands twice.`
+    : `${taken.get(name)} has the name ${shown(name)} already; queues, actors and tasks share their names.`;
+}
+
+/** @param {Fault} fault */
 function unknownQueue(fault) {
   const { key } = fault, value = String(fault.node?.value), title = fault.title();
-  const queues = fault.scenario.items('queue').map(item => said(item, 'name')).filter(it => typeof it === 'string');
+  const queues = fault.scenario.items('queue').flatMap(item => {
+    const name = said(item, 'name');
+    return typeof name === 'string' ? [name] : [];
+  });
   if (!queues.includes(value)) {
     return `${key} of ${title} is ${value}, and there is no queue of this name.${nearest(value, queues)}`;
   }
@@ -247,18 +376,25 @@ function unknownQueue(fault) {
   return `${key} of ${title} is the queue itself; it has to be another one.`;
 }
 
+/** @param {Fault} fault */
 function kindMismatch(fault) {
   const value = String(fault.node?.value), home = String(fault.value(fault.of === 'queue' ? 'name' : 'queue'));
   const [to, at] = [value, home].map(name => name.endsWith('.fifo') ? 'a FIFO queue' : 'a standard queue');
   return `${fault.key} of ${fault.title()} is ${value}, ${to}, and ${home} is ${at}; both have to be of one kind.`;
 }
 
+/** @param {Fault} fault */
 function tooMany(fault) {
-  if (!fault.of && ['actor', 'task'].includes(fault.key)) return 'Actors and tasks together are at most 10,000.';
+  if (!fault.of && (fault.key === 'actor' || fault.key === 'task')) {
+    return 'Actors and tasks together are at most 10,000.';
+  }
+  if (fault.key === 'copies') return 'Actors with all their copies, and tasks, are at most 10,000 together.';
+  if (RULES.lists[fault.found?.kind ?? '']) return wrongLength(fault);
   if (fault.record !== undefined) return 'A script has at most 100,000 records after the first, and 16,777,216 bytes.';
   return fault.key ? 'A scenario has at most 1,000 queues.' : 'A scenario has at most 16,777,216 bytes.';
 }
 
+/** @param {Fault} fault */
 function badScript(fault) {
   const { record, files } = fault, isInFile = fault.key === 'script', file = shown(fault.node?.value);
   if (isInFile && !files.includes(fault.node?.value)) {
@@ -272,16 +408,17 @@ function badScript(fault) {
       + `${SCRIPT_HEADER}, and times ascend.`;
 }
 
+/** @param {Fault} fault */
 function notToml({ scenario }) {
   if (scenario.lost === null) return 'It may be a number past 64 bits, or a key that is given twice.';
   const [line, column] = scenario.lineAndColumn(scenario.lost);
   return `From line ${line}, column ${column} on the text is no TOML. It may also be a key that is given twice.`;
 }
 
-const REASONS = { NotToml: notToml, UnknownKey: unknownKey, MissingKey: missingKey, WrongType: wrongType,
+/** @type {Record<string, (fault: Fault) => string>} */
+export const REASONS = { NotToml: notToml, UnknownKey: unknownKey, MissingKey: missingKey, WrongType: wrongType,
   OutOfRange: outOfRange, NameTwice: nameTwice, UnknownQueue: unknownQueue, KindMismatch: kindMismatch,
   TooMany: tooMany, BadScript: badScript,
-  BadName: fault => `The name ${fault.value('name')} will not do. `
-    + NAME_RULES[fault.of === 'queue' ? 'queue' : 'other'],
+  BadName: badName,
   Memory: () => 'There was not enough memory for this run.',
   CountLimit: () => 'A count would have passed 2^62 - 1.' };

@@ -1,22 +1,52 @@
-// What is drawn of one queue: its messages in each place, the ages, and what left it for a bad reason. The page has
-// this file.
+// @ts-check
+// What is drawn of one queue: its messages in each place, the ages, and what left it for a bad reason.
 
-const LEFT = 52, RIGHT = 10, CAPTION = 16, AXIS = 22;
-const HEIGHTS = { places: 110, ages: 80, counts: 48 };
+import { drawn, element, setText, tableOf } from './dom.js';
+import { duration, grouped, ticksOf } from './units.js';
+
+/** @typedef {import('./side.js').Side} Side */
+/** @typedef {import('./overtime.js').Drawn} Drawn */
+/** @typedef {Float32Array | Uint32Array | number[]} Numbers */
+/** @typedef {(value: number) => number} Scale */
+/** @typedef {{ places: import('./seeds.js').Extent[], ages: import('./seeds.js').Extent }} Extents */
+/**
+ * What a run tells of a queue over time; nothing of a queue that its variant does not have.
+ * @typedef {Omit<import('./overtime.js').QueueOverTime, 'name'>} Data
+ */
+/** @typedef {{ side: Side, data: Data, spread: Extents | undefined }} Share */
+/**
+ * @typedef {{ from: number, to: number, width: number, end: string, only?: string,
+ *   require: import('./require.js').Requirement, point(time: number): void, zoomTo(zoom: [number, number]): void,
+ *   zoomWhole(): void }} Room
+ */
+/** @typedef {{ kind: keyof typeof HEIGHTS, caption: string, most: number, isTime?: boolean, isLog?: boolean }} Panel */
+
+export const LEFT = 52, RIGHT = 10, CAPTION = 16, AXIS = 22;
+const HEIGHTS = { places: 110, ages: 80, counts: 48 }, SMALL_HEIGHT = 58;
 // Ages are on a logarithmic axis from this ratio on of the greatest one to that in the middle.
 const LOG_RATIO = 100;
+/** @type {[number, string][]} */
 const LOG_TICKS = [[1, '1 ms'], [10, '10 ms'], [100, '100 ms'], [1e3, '1 s'], [1e4, '10 s'], [6e4, '1 min'],
   [6e5, '10 min'], [36e5, '1 h'], [36e6, '10 h'], [864e5, '1 day'], [864e6, '10 days']];
+/** @type {[string, string][]} */
 const PLACES = [['visible', 'visible'], ['in-flight', 'in flight'], ['delayed', 'delayed']];
 // The ages that the worker gives, in its order.
-const MIDDLE = 0, MOST_OF_THEM = 1, GREATEST = 2;
-const MISSING = { places: [], ages: [], redrives: [], expiries: [] };
+export const MIDDLE = 0, MOST_OF_THEM = 1, GREATEST = 2;
+/** @type {Data} */
+export const MISSING = { places: [], ages: [], redrives: new Uint32Array(), expiries: new Uint32Array(),
+  oldest: { means: new Float32Array(), least: new Float32Array(), greatest: new Float32Array() } };
 // A pointer that moves so few pixels drags nothing.
 const DRAG_LEAST = 5;
 
-const greatestOf = numbers => numbers.reduce((most, number) => number > most ? number : most, 0);
+/** @param {Numbers} numbers */
+const greatestOf = numbers => {
+  let most = 0;
+  for (const number of numbers) most = number > most ? number : most;
+  return most;
+};
 
 // A line through columns of equal width in steps, as the path of an SVG. Where nothing is known there is no line.
+/** @param {ArrayLike<number>} numbers @param {Scale} x @param {Scale} y */
 function steps(numbers, x, y) {
   let path = '', isOpen = false, last = NaN;
   for (let i = 0; i < numbers.length; i++) {
@@ -34,6 +64,7 @@ function steps(numbers, x, y) {
 }
 
 // The extent from the least to the greatest number of each column, where they differ.
+/** @param {ArrayLike<number>} least @param {ArrayLike<number>} greatest @param {Scale} x @param {Scale} y */
 function bands(least, greatest, x, y) {
   let path = '';
   for (let i = 0; i < least.length; i++) {
@@ -45,10 +76,16 @@ function bands(least, greatest, x, y) {
   return path;
 }
 
-class Figure {
+export class Figure {
+  // `room` has the time and the width; in a small picture, the one part that it has, as `only`.
+  /** @param {string} name @param {Share[]} shares @param {Room} room */
   constructor(name, shares, room) {
-    Object.assign(this, { name, shares, room });
+    this.name = name;
+    this.shares = shares;
+    this.room = room;
+    /** @type {((share: number) => void)[]} */
     this.values = [];
+    /** @type {SVGLineElement[]} */
     this.lines = [];
     const pictures = shares.map(share => element('div', { className: 'picture' },
       shares.length > 1 ? element('p', { className: 'variant-name', textContent: share.side.name }) : null,
@@ -73,28 +110,34 @@ class Figure {
   }
 
   // The parts of the picture: those that have something to show in any variant.
+  /** @returns {Panel[]} */
   panels() {
-    const most = of => greatestOf(this.shares.map(({ data }) => of(data)));
-    const spread = of => greatestOf(this.shares.map(it => it.spread ? of(it.spread) : 0));
+    const most = (/** @type {(data: Data) => number} */ of) => greatestOf(this.shares.map(({ data }) => of(data)));
+    const spread = (/** @type {(extents: Extents) => number} */ of) =>
+      greatestOf(this.shares.map(it => it.spread ? of(it.spread) : 0));
     const places = Math.max(most(data => greatestOf(data.places.map(place => greatestOf(place.greatest)))),
       spread(it => greatestOf(it.places.map(({ greatest }) => greatestOf(greatest)))));
     const ages = Math.max(spread(it => greatestOf(it.ages.greatest)), most(data =>
       Math.max(greatestOf(data.ages[GREATEST] ?? []), greatestOf(data.oldest?.greatest ?? []))));
     const counts = most(({ redrives, expiries }) => greatestOf([...redrives, ...expiries]));
+    /** @type {Panel[]} */
     const panels = [{ kind: 'places', caption: 'messages', most: Math.max(1, places) }];
     if (ages > 0) panels.push({ kind: 'ages', caption: 'age', most: ages, isTime: true, isLog: this.isLog });
     for (const panel of panels) panel.most = Math.max(panel.most, this.required(panel.kind)?.most ?? 0);
+    // a small picture has one part
+    if (this.room.only) return [panels.find(({ kind }) => kind === this.room.only) ?? panels[0]];
     if (counts) panels.push({ kind: 'counts', caption: 'redriven and expired', most: counts });
     return panels;
   }
 
+  /** @param {Share} share */
   picture(share) {
     const { data, side } = share;
     const { width, from, to } = this.room, parts = [];
     let top = 0;
     for (const panel of this.panels()) {
       parts.push(...this.panel(panel, share, top + CAPTION));
-      top += CAPTION + HEIGHTS[panel.kind];
+      top += CAPTION + this.heightOf(panel);
     }
     const { ticks, unit } = ticksOf(from, to, Math.max(2, Math.floor(width / 90)), true);
     const x = this.xOf(to - from, from);
@@ -106,7 +149,8 @@ class Figure {
     const line = drawn('line', { class: 'moment', x1: LEFT, x2: LEFT, y1: 0, y2: top });
     this.lines.push(line);
     if (this.room.end) {
-      parts.push(drawn('text', { class: 'end', x: width - RIGHT, y: CAPTION - 4, 'text-anchor': 'end' }, this.room.end));
+      const place = { class: 'end', x: width - RIGHT, y: CAPTION - 4, 'text-anchor': 'end' };
+      parts.push(drawn('text', place, this.room.end));
     }
     const picture = drawn('svg', { width, height: top + AXIS, viewBox: `0 0 ${width} ${top + AXIS}`, role: 'img',
       'aria-label': this.descriptionOf(data, side) }, ...parts, line);
@@ -115,9 +159,10 @@ class Figure {
   }
 
   // A pointer shows its moment, a drag zooms into its time, and two clicks show all.
+  /** @param {SVGSVGElement} picture @param {number} height */
   follow(picture, height) {
     const { from, to, width, point, zoomTo, zoomWhole } = this.room;
-    const timeAt = ({ clientX }) => from + (to - from) * Math.min(1, Math.max(0,
+    const timeAt = (/** @type {PointerEvent} */ { clientX }) => from + (to - from) * Math.min(1, Math.max(0,
       (clientX - picture.getBoundingClientRect().left - LEFT) / (width - LEFT - RIGHT)));
     picture.addEventListener('pointermove', event => { if (event.pointerType !== 'touch') point(timeAt(event)); });
     picture.addEventListener('dblclick', zoomWhole);
@@ -125,66 +170,84 @@ class Figure {
       point(timeAt(down));
       const begun = timeAt(down), ends = new AbortController(), x = this.xOf(to - from, from);
       const area = drawn('rect', { class: 'dragged', y: 0, height, width: 0 });
-      const isDrag = event => Math.abs(event.clientX - down.clientX) >= DRAG_LEAST;
+      const isDrag = (/** @type {PointerEvent} */ event) => Math.abs(event.clientX - down.clientX) >= DRAG_LEAST;
       picture.append(area);
       document.addEventListener('pointermove', event => {
         const [low, high] = [begun, timeAt(event)].sort((a, b) => a - b);
-        area.setAttribute('x', x(low));
-        area.setAttribute('width', isDrag(event) ? x(high) - x(low) : 0);
+        area.setAttribute('x', String(x(low)));
+        area.setAttribute('width', String(isDrag(event) ? x(high) - x(low) : 0));
       }, { signal: ends.signal });
-      const end = event => {
+      const end = (/** @type {PointerEvent} */ event) => {
         ends.abort();
         area.remove();
-        if (event.type === 'pointerup' && isDrag(event)) zoomTo([begun, timeAt(event)].sort((a, b) => a - b));
+        const at = timeAt(event);
+        if (event.type === 'pointerup' && isDrag(event)) zoomTo([Math.min(begun, at), Math.max(begun, at)]);
       };
-      for (const type of ['pointerup', 'pointercancel']) document.addEventListener(type, end, { signal: ends.signal });
+      document.addEventListener('pointerup', end, { signal: ends.signal });
+      document.addEventListener('pointercancel', end, { signal: ends.signal });
     });
   }
 
+  /** @param {Panel} panel */
+  heightOf({ kind }) {
+    return this.room.only ? SMALL_HEIGHT : HEIGHTS[kind];
+  }
+
+  /** @param {number} span @param {number} start @returns {Scale} */
   xOf(span, start = 0) {
     return value => LEFT + (this.room.width - LEFT - RIGHT) * (value - start) / span;
   }
 
   // The line of the requirement in a panel, of the variant that is shown last; null if there is none.
+  /** @param {string} kind */
   required(kind) {
-    const { result } = this.shares.at(-1).side;
-    return this.room.require.lineIn(kind, result.values.find(({ queue }) => queue === this.name));
+    const { outcome } = this.shares[this.shares.length - 1].side;
+    return this.room.require.lineIn(kind, outcome.values.find(({ queue }) => queue === this.name));
   }
 
-  lineOf({ most, isBroken, text }, y) {
+  /** @param {{ most: number, isBroken: boolean, text: string }} line @param {Scale} y @param {number} top */
+  lineOf({ most, isBroken, text }, y, top) {
     const { width } = this.room, className = isBroken ? 'broken' : '';
     return [drawn('line', { class: `required ${className}`, x1: LEFT, x2: width - RIGHT, y1: y(most), y2: y(most) }),
-      drawn('text', { class: className, x: LEFT + 4, y: y(most) - 3 }, text)];
+      // in a small picture it stands beside the caption
+      this.room.only ? drawn('text', { class: className, x: width - RIGHT - 4, y: top - 4, 'text-anchor': 'end' }, text)
+        : drawn('text', { class: className, x: LEFT + 4, y: y(most) - 3 }, text)];
   }
 
+  /** @param {Panel} panel @param {Share} share @param {number} top */
   panel(panel, { data, spread }, top) {
-    const { width } = this.room, height = HEIGHTS[panel.kind], y = this.heights(panel, top, height);
-    const parts = [drawn('text', { class: 'caption', x: LEFT, y: top - 4 }, panel.caption)];
+    const { width } = this.room, height = this.heightOf(panel), y = this.heights(panel, top, height);
+    /** @type {SVGElement[]} */
+    const parts = [drawn('text', { class: 'caption', x: LEFT, y: top - 4 },
+      this.room.only ? `${panel.caption} in ${this.name}` : panel.caption)];
     const required = this.required(panel.kind);
-    if (required) parts.push(...this.lineOf(required, y));
-    const ticks = panel.isLog ? LOG_TICKS.filter(([at]) => at <= panel.most).map(([at, text]) => ({ at, text }))
-      : ticksOf(0, panel.most, 3, panel.isTime);
-    const list = (ticks.ticks ?? ticks).map(({ at, text }) => ({ at,
-      text: ticks.unit && at ? `${text} ${ticks.unit}` : text }));
+    if (required) parts.push(...this.lineOf(required, y, top));
+    const { ticks, unit } = panel.isLog ? { unit: '', ticks: LOG_TICKS.filter(([at]) => at <= panel.most)
+      .map(([at, text]) => ({ at, text })) } : ticksOf(0, panel.most, 3, panel.isTime);
+    const list = ticks.map(({ at, text }) => ({ at, text: unit && at ? `${text} ${unit}` : text }));
     for (const { at, text } of list.filter((_, i) => list.length < 5 || (list.length - 1 - i) % 2 === 0)) {
       parts.push(drawn('line', { class: 'grid', x1: LEFT, x2: width - RIGHT, y1: y(at), y2: y(at) }),
         drawn('text', { class: 'tick-text', x: LEFT - 5, y: y(at) + 4, 'text-anchor': 'end' }, text));
     }
     if (!data.places.length) return [...parts, this.absent(top + height / 2)];
-    return [...parts, ...{ places: () => this.places(data, spread, y), ages: () => this.ages(data, spread, y),
-      counts: () => this.counts(data, y) }[panel.kind]()];
+    const inside = { places: () => this.places(data, spread, y), ages: () => this.ages(data, spread, y),
+      counts: () => this.counts(data, y) };
+    return [...parts, ...inside[panel.kind]()];
   }
 
+  /** @param {number} y */
   absent(y) {
     return drawn('text', { class: 'caption', x: LEFT + 20, y }, 'this variant has no such queue');
   }
 
+  /** @param {Panel} panel @param {number} top @param {number} height @returns {Scale} */
   heights({ most, isLog }, top, height) {
     const low = 1, bottom = top + height - 4, full = height - 8;
     return isLog ? value => bottom - full * Math.log(Math.max(low, value)) / Math.log(Math.max(10, most))
       : value => bottom - full * value / most;
   }
 
+  /** @param {Data} data @param {Extents | undefined} spread @param {Scale} y */
   places(data, spread, y) {
     const x = this.xOf(data.places[0].means.length);
     return PLACES.flatMap(([kind], i) => {
@@ -198,18 +261,20 @@ class Figure {
   }
 
   // The extent over seeds, which is of the whole run and is drawn where it is in view.
+  /** @param {import('./seeds.js').Extent | undefined} extent @param {string} kind @param {Scale} y */
   spreadOf(extent, kind, y) {
     if (!extent) return '';
     const { from, to } = this.room, x = this.xOf(to - from, from), { least, greatest } = extent;
     const low = extent.from, width = (extent.to - low) / least.length;
     const inView = Array.from(least, (_, i) => low + (i + 1) * width > from && low + i * width < to);
-    const at = i => x(Math.min(to, Math.max(from, low + i * width)));
+    const at = (/** @type {number} */ i) => x(Math.min(to, Math.max(from, low + i * width)));
     const seen = least.map((it, i) => inView[i] ? it : NaN);
     return drawn('path', { class: `spread ${kind}`, d: bands(seen, greatest, at, y) });
   }
 
   // The ages of messages that were deleted, as a band from the middle to the greatest with 95 % as a line, and the age
   // of the oldest one.
+  /** @param {Data} data @param {Extents | undefined} spread @param {Scale} y */
   ages(data, spread, y) {
     const x = this.xOf(data.ages[0].length), fine = this.xOf(data.oldest.means.length), { means } = data.oldest;
     return [this.spreadOf(spread?.ages, 'age', y), drawn('path', { class: 'line oldest', d: steps(means, fine, y) }),
@@ -217,8 +282,10 @@ class Figure {
       drawn('path', { class: 'line age', d: steps(data.ages[MOST_OF_THEM], x, y) })];
   }
 
+  /** @param {Data} data @param {Scale} y */
   counts(data, y) {
     const x = this.xOf(data.redrives.length), parts = [], zero = y(0);
+    /** @type {(kind: string, i: number, from: number, to: number) => void} */
     const bar = (kind, i, from, to) => {
       if (to > from) {
         parts.push(drawn('rect', { class: `bar ${kind}`, x: x(i).toFixed(1), y: y(to).toFixed(1),
@@ -233,10 +300,13 @@ class Figure {
 
   // The colours with what there is at the moment that is pointed at, one entry for each line that is drawn.
   legend() {
-    const kinds = this.panels().map(({ kind }) => kind), groups = [];
-    const group = (title, entries) => groups.push(element('div', {}, element('span', { textContent: `${title}: ` }),
-      ...entries));
-    const isThere = i => !i || this.shares.some(({ data }) => greatestOf(data.places[i]?.greatest ?? []) > 0);
+    const kinds = this.panels().map(({ kind }) => kind);
+    /** @type {HTMLElement[]} */
+    const groups = [];
+    const group = (/** @type {string} */ title, /** @type {(Node | null)[]} */ entries) =>
+      groups.push(element('div', {}, element('span', { textContent: `${title}: ` }), ...entries));
+    const isThere = (/** @type {number} */ i) => !i
+      || this.shares.some(({ data }) => greatestOf(data.places[i]?.greatest ?? []) > 0);
     group('messages', PLACES.map(([kind, text], i) => !isThere(i) ? null
       : this.entry(kind, text, (data, share) => this.numberAt(data.places[i], share))));
     if (kinds.includes('ages')) {
@@ -253,37 +323,45 @@ class Figure {
   }
 
   // An entry of the legend, with what `tellAt` says of each variant at the moment that is pointed at.
+  /** @param {string} kind @param {string} text @param {(data: Data, share: number) => string} tellAt */
   entry(kind, text, tellAt) {
     const value = element('span', { className: 'value' });
-    this.values.push(share => setText(value, this.shares.map(({ data }) => data.places.length ? tellAt(data, share) : '-')
-      .join(' | ')));
+    this.values.push(share => {
+      const told = this.shares.map(({ data }) => data.places.length ? tellAt(data, share) : '-');
+      setText(value, told.every(it => it === '-') ? '' : told.join(' | '));
+    });
     return element('span', { className: `entry ${kind}` }, element('span', { className: 'swatch' }), `${text} `, value);
   }
 
+  /** @param {ArrayLike<number>} numbers @param {number} share */
   itemAt(numbers, share) {
     return numbers[Math.max(0, Math.min(numbers.length - 1, Math.floor(share * numbers.length)))];
   }
 
+  /** @param {Drawn} drawn @param {number} share */
   numberAt({ least, greatest }, share) {
     const [low, high] = [this.itemAt(least, share), this.itemAt(greatest, share)];
     return low === high ? grouped(high) : `${grouped(low)} to ${grouped(high)}`;
   }
 
+  /** @param {ArrayLike<number>} ages @param {number} share */
   ageAt(ages, share) {
     const age = this.itemAt(ages, share);
     return age >= 0 ? duration(Math.round(age)) : '-';
   }
 
+  /** @param {number} share */
   point(share) {
     const x = LEFT + (this.room.width - LEFT - RIGHT) * share;
     for (const line of this.lines) {
-      line.setAttribute('x1', x);
-      line.setAttribute('x2', x);
+      line.setAttribute('x1', String(x));
+      line.setAttribute('x2', String(x));
     }
     for (const show of this.values) show(share);
   }
 
   // The numbers of a moment in words.
+  /** @param {number} share */
   wordsAt(share) {
     const sides = this.shares.filter(({ data }) => data.places.length).map(({ side, data }) =>
       (this.shares.length > 1 ? `${side.name} ` : '')
@@ -291,6 +369,7 @@ class Figure {
     return `${this.name} ${sides.join('; ')}`;
   }
 
+  /** @param {Data} data @param {Side} side */
   descriptionOf(data, side) {
     if (!data.places.length) return `${this.name}: variant ${side.name} has no such queue`;
     const most = PLACES.map(([, text], i) => `at most ${grouped(greatestOf(data.places[i].greatest))} ${text}`);

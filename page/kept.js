@@ -1,9 +1,11 @@
-// Choices of the reader that the browser keeps, where it keeps any for this page. The page has this file.
+// @ts-check
+// Choices of the reader that the browser keeps, where it keeps any for this page.
 
 const KEPT_PREFIX = 'sqs_rehearse.';
 
 // What was kept under a name; null if nothing was, or nothing can be.
-function kept(name) {
+/** @param {string} name */
+export function kept(name) {
   try {
     return localStorage.getItem(KEPT_PREFIX + name);
   } catch {
@@ -11,7 +13,8 @@ function kept(name) {
   }
 }
 
-function keepChoice(name, value) {
+/** @param {string} name @param {string} value */
+export function keepChoice(name, value) {
   try {
     localStorage.setItem(KEPT_PREFIX + name, value);
   } catch {

@@ -1,8 +1,13 @@
+// @ts-check
 // The link to the scenarios of the page, after the # of its address: a digit for its form, and the texts as JSON,
 // compressed; with script files { texts, files }, each file a list of its name and its bytes. Form 2 has a checksum, by
-// which any damage shows. Form 1, of earlier pages, has none. The page has this file. What follows the # never leaves
-// the browser.
+// which any damage shows. Form 1, of earlier pages, has none. What follows the # never leaves the browser.
 
+import { bytesIn, bytesOf, streamed } from './asker.js';
+
+/** @typedef {{ name: string, bytes: Uint8Array }} File */
+
+/** @type {Record<string, string>} */
 const FORMS = { 1: 'deflate-raw', 2: 'deflate' }, FORM = 2;
 // The longest link that is made; longer ones are cut by too many programs.
 const LINK_MOST = 30000;
@@ -13,6 +18,7 @@ const LINK_FAULTS = { damaged: 'This link is cut or damaged: what it held cannot
   large: 'This link holds more than 1 MB, which this page does not unpack: what it holds cannot be shown.' };
 
 // Bytes as a text with a character for each.
+/** @param {Uint8Array} bytes */
 function lettersOf(bytes) {
   let letters = '';
   for (const byte of bytes) letters += String.fromCharCode(byte);
@@ -20,7 +26,8 @@ function lettersOf(bytes) {
 }
 
 // A link to texts and script files; null if it would be too long, or hold too much to be opened.
-async function linkOf(texts, files) {
+/** @param {string[]} texts @param {File[]} files */
+export async function linkOf(texts, files) {
   const held = texts.map(text => text.length).concat(files.map(({ bytes }) => bytes.length));
   if (held.reduce((a, b) => a + b, 0) > HELD_MOST) return null;
   const what = files.length ? { texts, files: files.map(({ name, bytes }) => [name, lettersOf(bytes)]) } : texts;
@@ -32,6 +39,7 @@ async function linkOf(texts, files) {
 }
 
 // What compressed bytes hold; null past HELD_MOST, where nothing more is unpacked.
+/** @param {Uint8Array} bytes @param {string} form */
 async function unpackedOf(bytes, form) {
   let at = 0, length = 0;
   const pieces = new ReadableStream({ pull(controller) {
@@ -39,7 +47,9 @@ async function unpackedOf(bytes, form) {
     else controller.close();
     at += PIECE;
   } }, { highWaterMark: 0 });
-  const reader = pieces.pipeThrough(new DecompressionStream(form)).getReader(), parts = [];
+  const reader = pieces.pipeThrough(new DecompressionStream(form)).getReader();
+  /** @type {Uint8Array[]} */
+  const parts = [];
   for (let next = await reader.read(); !next.done; next = await reader.read()) {
     length += next.value.length;
     if (length > HELD_MOST) {
@@ -51,11 +61,16 @@ async function unpackedOf(bytes, form) {
   return new Uint8Array(await new Blob(parts).arrayBuffer());
 }
 
+/** @param {unknown} it @returns {it is string[]} */
 const areTexts = it => Array.isArray(it) && it.every(text => typeof text === 'string');
+/** @param {unknown} it @returns {it is [string, string][]} */
 const areFiles = it => Array.isArray(it) && it.every(file => areTexts(file) && file.length === 2);
 
 // The texts and the script files of a link; or its `fault`, as a sentence.
-async function linkedIn(link) {
+/** @param {string} link
+ * @returns {Promise<{ fault: string, texts?: undefined, files?: undefined }
+ *   | { fault?: undefined, texts: string[], files: File[] }>} */
+export async function linkedIn(link) {
   const form = link[1];
   if (!/^#[0-9]/.test(link)) return { fault: LINK_FAULTS.damaged };
   if (!FORMS[form]) return { fault: LINK_FAULTS.later };

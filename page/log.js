@@ -1,48 +1,71 @@
-// The rows of a log, read from its bytes. The worker has this file.
+// @ts-check
+// The rows of a log, read from its bytes.
 //
 // A row is given on as numbers: its time, its head (queue, agent, call and answer), the number of its message, its
 // receipt as one number, where its detail begins, and where it ends. -1 stands for none.
 
-const COMMA = 44, DASH = 45, ZERO = 48, NINE = 57, QUOTE = 34, LINE_END = 10;
-const REFUSALS = ['OverLimit', 'MessageNotInflight', 'ReceiptHandleIsInvalid', 'BadTimeout', 'MissingGroup',
-  'MissingDeduplication', 'BadDelay', 'TaskRunning', 'NoTask'];
+import { textOf } from './units.js';
+
+export const COMMA = 44, DASH = 45, ZERO = 48, NINE = 57, QUOTE = 34, LINE_END = 10;
 // A receipt is one number: that of the message times this, and the number of its receive.
-const RECEIVES = 2 ** 21;
+export const RECEIVES = 2 ** 21;
+
+/** @typedef {Uint8Array | Uint32Array | Int32Array | Float64Array} Kinds */
+/**
+ * What rows share that have the same queue, agent, call and answer. `take` is called with a row of them.
+ * @typedef {{ queue: import('./queue.js').Queue, number: number, agent: string, call: string, kind: string,
+ *   times: Numbers<Uint32Array> | null, take: Taker,
+ *   went?: { from: number, length: number, queue: import('./queue.js').Queue } }} Made
+ */
+/** @typedef {Made & { from: number, length: number, rows: number }} Head */
+/** @typedef {(queue: string, agent: string, call: string, answer: string) => Made} Making */
+/**
+ * @typedef {(time: number, head: Head, message: number, receipt: number, from: number, to: number) => void} Taker
+ */
 
 // Numbers of one kind that grow as they are added to.
-class Numbers {
+/** @template {Kinds} Kind */
+export class Numbers {
+  /** @param {new (length: number) => Kind} kind */
   constructor(kind) {
+    this.kind = kind;
     this.items = new kind(64);
     this.length = 0;
   }
 
+  /** @param {number} number */
   push(number) {
     if (this.length === this.items.length) {
-      const longer = new this.items.constructor(2 * this.length);
+      const longer = new this.kind(2 * this.length);
       longer.set(this.items);
       this.items = longer;
     }
     this.items[this.length++] = number;
   }
 
+  /** @returns {Kind} */
   get whole() {
-    return this.items.subarray(0, this.length);
+    return /** @type {Kind} */ (this.items.subarray(0, this.length));
   }
 }
 
+/** @param {number} byte */
 const isDigit = byte => byte >= ZERO && byte <= NINE;
 
 // The fields of a line without quotes in it.
+/** @param {string} line */
 const fieldsOf = line => line.split(',');
 
 // Where the line that begins at a place ends, its line feed counted.
+/** @param {Uint8Array} bytes @param {number} at */
 const afterLine = (bytes, at) => {
   const end = bytes.indexOf(LINE_END, at);
   return end < 0 ? bytes.length : end + 1;
 };
 
 // Where the text after a field and its comma begins. A field may be in quotes.
-function afterField(bytes, from) {
+/** @param {Uint8Array} bytes @param {number} from */
+export function afterField(bytes, from) {
   if (bytes[from] === QUOTE) {
     let end = from + 1;
     while (bytes[end] !== QUOTE || bytes[end + 1] === QUOTE) end += bytes[end] === QUOTE ? 2 : 1;
@@ -55,12 +78,15 @@ function afterField(bytes, from) {
 
 // The heads of rows, each once: a row has the bytes of one that was there before, as nearly all have.
 class Heads {
+  /** @param {Uint8Array} bytes @param {Making} made */
   constructor(bytes, made) {
     this.bytes = bytes;
     this.made = made;
+    /** @type {Map<number, Head[]>} */
     this.byHash = new Map();
   }
 
+  /** @param {number} from @param {number} to @param {number} hash */
   at(from, to, hash) {
     let heads = this.byHash.get(hash);
     if (!heads) this.byHash.set(hash, heads = []);
@@ -71,6 +97,7 @@ class Heads {
     return head;
   }
 
+  /** @param {Head} head @param {number} from @param {number} to */
   isSame(head, from, to) {
     if (head.length !== to - from) return false;
     for (let i = 0; i < head.length; i++) if (this.bytes[head.from + i] !== this.bytes[from + i]) return false;
@@ -83,21 +110,23 @@ class Heads {
 }
 
 // Reads the rows of a log and gives each to the function of its head. `made` makes a head of four texts, whose `take`
-// is called with a row. Gives where each row begins, where the log ends, the heads, and the last time.
-function readRows(bytes, made) {
+// is called with a row. `times` of a head, if it has a list of them, are those of its rows. Gives where each row
+// begins, where the log ends, the heads, and the last time.
+/** @param {Uint8Array} bytes @param {Making} made */
+export function readRows(bytes, made) {
   const heads = new Heads(bytes, made), starts = new Numbers(Uint32Array);
   let at = afterLine(bytes, 0), time = 0;
   // the last number that was read, and where the text after it begins
   let number = 0, next = 0;
-  const readNumber = from => {
+  const readNumber = (/** @type {number} */ from) => {
     number = 0;
     for (next = from; isDigit(bytes[next]); next++) number = number * 10 + bytes[next] - ZERO;
     return next > from && (next === from + 1 || bytes[from] !== ZERO);
   };
   // the number of a message `m-Q-N`; its queue is that of the row
-  const messageAt = from => readNumber(from + 2) && readNumber(next + 1) ? number : -1;
+  const messageAt = (/** @type {number} */ from) => readNumber(from + 2) && readNumber(next + 1) ? number : -1;
   // a receipt `r-Q-N-C` of the queue of the row, whose number in the scenario is `queue`, as one number
-  const receiptAt = (from, queue) => {
+  const receiptAt = (/** @type {number} */ from, /** @type {number} */ queue) => {
     if (bytes[from] !== 114 || bytes[from + 1] !== DASH || !readNumber(from + 2) || number !== queue
       || bytes[next] !== DASH || !readNumber(next + 1) || bytes[next] !== DASH) return -1;
     const message = number;
@@ -120,6 +149,7 @@ function readRows(bytes, made) {
     at = detail;
     while (bytes[at] !== LINE_END) at++;
     head.rows++;
+    head.times?.push(time);
     head.take(time, head, message, receipt, detail, at);
     at++;
   }
@@ -127,7 +157,8 @@ function readRows(bytes, made) {
 }
 
 // The records after a log whose first field is a word, as `report`, their header first; each is its fields.
-function recordsOf(bytes, from, word) {
+/** @param {Uint8Array} bytes @param {number} from @param {string} word */
+export function recordsOf(bytes, from, word) {
   const records = [];
   const sign = new TextEncoder().encode(`${word},`);
   for (let at = from; at < bytes.length; at = afterLine(bytes, at)) {

@@ -6,8 +6,10 @@ import { createHash } from 'node:crypto';
 import fs from 'node:fs';
 import path from 'node:path';
 import { fileURLToPath } from 'node:url';
-import vm from 'node:vm';
 import { gunzipSync } from 'node:zlib';
+
+import { Scenario, said } from './scenario.js';
+import { answered, lineOf } from './simulator.js';
 
 const TOP = path.dirname(path.dirname(fs.realpathSync(fileURLToPath(import.meta.url))));
 const PAGE = path.join(TOP, 'dist', 'playground.html');
@@ -21,10 +23,11 @@ goes in and what comes out, and the statuses.
 // The options of each command: those with a value that is a text, with one that is a number, and those without.
 const SCRIPTS = { texts: ['scripts'], numbers: [], flags: ['preview'], least: 0, most: 1 };
 const COMMANDS = { check: SCRIPTS, compare: { ...SCRIPTS, least: 2, most: 2 },
-  run: { ...SCRIPTS, texts: ['scripts', 'log', 'map'], numbers: ['window', 'parts', 'workers', 'from', 'to'],
+  run: { ...SCRIPTS, texts: ['scripts', 'log', 'map'],
+    numbers: ['window', 'parts', 'workers', 'from', 'to', 'backlog', 'window-figures'],
     flags: ['figures', 'preview', 'quiet'] } };
 // What only the program itself does.
-const OWN = ['figures', 'from', 'to'];
+const OWN = ['figures', 'from', 'to', 'backlog', 'window-figures'];
 const DONE = 0, SECOND_REFUSED = 6;
 const IN_RUN = 30, OF_WRITING = 36;
 // Where the log ends: the header of the final queues.
@@ -109,15 +112,10 @@ function checkedPage() {
   return page.toString();
 }
 
-// What the scripts of the page have: its worker with the module in it, and its reader of scenarios.
+// The module of the page, compiled.
 async function simulator() {
-  const part = id => new RegExp(`<script type="text/plain" id="${id}">([^<]*)`).exec(page)[1], page = checkedPage();
-  const text = fs.readFileSync(path.join(TOP, 'page', 'scenario.js'), 'utf8')
-    + fs.readFileSync(path.join(TOP, 'page', 'worker.js'), 'utf8');
-  globalThis.self = {};
-  const found = vm.runInThisContext(`${text}\n({ Scenario, said, answered, lineOf, use(it) { compiled = it; } })`);
-  found.use(await WebAssembly.compile(gunzipSync(Buffer.from(part('module'), 'base64'))));
-  return found;
+  const [, packed] = /<script type="text\/plain" id="module">([^<]*)/.exec(checkedPage());
+  return WebAssembly.compile(gunzipSync(Buffer.from(packed, 'base64')));
 }
 
 // The words of a command by the names of its options, and those that are no options as `paths`.
@@ -125,7 +123,7 @@ function optionsOf(command, words) {
   const { texts, numbers, flags, least, most } = COMMANDS[command], options = { paths: [], scripts: '.' };
   const usage = line => new Stop(2, `error: ${line}\n\n${USAGE.trimEnd()}`);
   for (let at = 0, isAtEnd = false; at < words.length; at++) {
-    const [, name, , value] = isAtEnd ? [] : /^--([a-z]+)(=([^]*))?$/.exec(words[at]) ?? [];
+    const [, name, , value] = isAtEnd ? [] : /^--([a-z][a-z-]*)(=([^]*))?$/.exec(words[at]) ?? [];
     if (words[at] === '--' && !isAtEnd) isAtEnd = true;
     else if (!name && (isAtEnd || !/^-./.test(words[at]))) options.paths.push(words[at]);
     else if (flags.includes(name) && value === undefined) options[name] = true;
@@ -140,7 +138,7 @@ function optionsOf(command, words) {
 }
 
 // The script files that scenarios name, as far as they can be read.
-function filesOf({ Scenario, said }, texts, folder) {
+function filesOf(texts, folder) {
   const actors = texts.flatMap(text => new Scenario(text.toString()).items('actor'));
   const names = new Set(actors.map(actor => said(actor, 'script')).filter(name => typeof name === 'string'));
   return [...names].flatMap(name => {
@@ -153,21 +151,21 @@ function filesOf({ Scenario, said }, texts, folder) {
 }
 
 // The line of a refusal, and its status.
-function refusal(it, code, bytes) {
-  const line = it.lineOf(code, bytes);
+function refusal(code, bytes) {
+  const line = lineOf(code, bytes);
   const number = Number(line.split(' ')[1]);
   return new Stop(number < IN_RUN ? 1 : number < OF_WRITING ? 3 : 4, line);
 }
 
 // The bytes of a run, or why it is refused. Version 3 is read only if the preview is asked for.
-async function ran(it, text, files, isPreview) {
-  const { code, bytes } = await it.answered('rehearse', isPreview, [text], files);
-  if (code !== DONE) throw refusal(it, code, bytes);
+async function ran(compiled, text, files, isPreview) {
+  const { code, bytes } = await answered(compiled, 'rehearse', isPreview, [text], files);
+  if (code !== DONE) throw refusal(code, bytes);
   return Buffer.from(bytes.buffer, bytes.byteOffset, bytes.length);
 }
 
-async function run(it, { paths: [name = '-'], scripts, log, preview = false }) {
-  const text = read(name), whole = await ran(it, text, filesOf(it, [text], scripts), preview);
+async function run(compiled, { paths: [name = '-'], scripts, log, preview = false }) {
+  const text = read(name), whole = await ran(compiled, text, filesOf([text], scripts), preview);
   if (log === undefined) return write(1, whole);
   let file;
   try {
@@ -181,7 +179,7 @@ async function run(it, { paths: [name = '-'], scripts, log, preview = false }) {
 }
 
 // The least latency of a scenario that is valid: of its ways from queue to queue, or past the horizon.
-function leastOf({ Scenario, said }, text) {
+function leastOf(text) {
   const scenario = new Scenario(text);
   const ways = [...scenario.items('queue').filter(queue => said(queue, 'dead_letter') !== undefined),
     ...scenario.items('task'), ...scenario.items('actor').filter(actor => said(actor, 'forward') !== undefined)];
@@ -189,32 +187,33 @@ function leastOf({ Scenario, said }, text) {
   return latencies.length ? latencies.reduce((a, b) => b < a ? b : a) : said(scenario.top, 'horizon') + 1n;
 }
 
-async function check(it, { paths: [name = '-'], scripts, preview = false }) {
+async function check(compiled, { paths: [name = '-'], scripts, preview = false }) {
   const text = read(name);
   try {
-    await ran(it, text, filesOf(it, [text], scripts), preview);
+    await ran(compiled, text, filesOf([text], scripts), preview);
   } catch (error) {
     // what a run alone is refused for is no fault of the scenario
     if (!(error instanceof Stop) || error.status === 1) throw error;
   }
-  const scenario = new it.Scenario(text.toString());
+  const scenario = new Scenario(text.toString());
   // consumers of version 3 may have copies
-  const copiesOf = items => items.reduce((count, item) => count + Number(it.said(item, 'copies') ?? 1), 0);
+  const copiesOf = items => items.reduce((count, item) => count + Number(said(item, 'copies') ?? 1), 0);
   const counts = ['queue', 'actor', 'task'].map(of => `${of}s=${copiesOf(scenario.items(of))}`);
-  write(1, Buffer.from(`ok ${counts.join(' ')} least=${leastOf(it, text.toString())}\n`));
+  write(1, Buffer.from(`ok ${counts.join(' ')} least=${leastOf(text.toString())}\n`));
 }
 
-async function compare(it, { paths, scripts, preview = false }) {
+async function compare(compiled, { paths, scripts, preview = false }) {
   const first = read(paths[0]);
   let second;
   try {
     second = read(paths[1]);
   } catch (error) {
-    await ran(it, first, filesOf(it, [first], scripts), preview);
+    await ran(compiled, first, filesOf([first], scripts), preview);
     throw error;
   }
-  const { code, bytes } = await it.answered('compare', preview, [first, second], filesOf(it, [first, second], scripts));
-  if (code !== DONE) throw refusal(it, code === SECOND_REFUSED ? 1 : code, bytes);
+  const texts = [first, second];
+  const { code, bytes } = await answered(compiled, 'compare', preview, texts, filesOf(texts, scripts));
+  if (code !== DONE) throw refusal(code === SECOND_REFUSED ? 1 : code, bytes);
   write(1, bytes);
 }
 

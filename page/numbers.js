@@ -1,5 +1,17 @@
-// A slider and a field for each number of the scenario. The page has this file. Numbers are in words, as 400 ms, 10 min
-// and 5 %. A slider goes over all that its key may have, in round steps.
+// @ts-check
+// A slider and a field for each number of the scenario. Numbers are in words, as 400 ms, 10 min and 5 %. A slider goes
+// over all that its key may have, in round steps.
+
+import { byId, element } from './dom.js';
+import { KEYS } from './facts.js';
+import { NUMBER, rangeText, versionOf } from './faults.js';
+import { said } from './scenario.js';
+import { grouped, momentOf } from './units.js';
+
+/** @typedef {import('./facts.js').Key} Key */
+/** @typedef {import('./scenario.js').Item} Item */
+/** @typedef {import('./scenario.js').Scenario} Scenario */
+/** @typedef {{ place: string, of: string, name: unknown, title: string, key: Key, node: Item }} Found */
 
 const NUMBERS_MOST = 80;
 // The values of a slider that are tried lie within so many of its stops.
@@ -9,18 +21,22 @@ const ONE_BY_ONE = 60;
 // So many groups of numbers are open at first, where no question says which numbers matter first.
 const OPEN_FIRST = 3;
 // The milliseconds of each unit of a time, with the round numbers of it.
+/** @type {[number, number[]][]} */
 const TIME_STEPS = [[1, []], [1e3, [1, 1.5, 2, 2.5, 3, 4, 5, 6, 8, 10, 12, 15, 20, 25, 30, 40, 45, 50]],
   [6e4, [1, 1.5, 2, 2.5, 3, 4, 5, 6, 8, 10, 12, 15, 20, 25, 30, 40, 45, 50]],
   [36e5, [1, 1.5, 2, 3, 4, 5, 6, 8, 10, 12, 16, 20]], [864e5, [1, 1.5, 2, 3, 4, 5, 6, 7, 10, 14, 21, 30]]];
 const ROUND = [1, 1.2, 1.5, 2, 2.5, 3, 4, 5, 6, 8];
+/** @type {[number, string][]} */
 const TIME_NAMES = [[864e5, 'days'], [36e5, 'h'], [6e4, 'min'], [1e3, 's']];
 
 // The milliseconds of 1 in a number of a key; 0 of one that is no time.
+/** @param {string} name */
 const unitOf = name => name === 'horizon' || name === 'sample' || name.endsWith('_ms') ? 1
   : name.endsWith('_s') ? 1000 : 0;
 
 // A number of a key in words, with nothing left out.
-function written(name, value) {
+/** @param {string} name @param {number} value */
+export function written(name, value) {
   if (name.endsWith('_permille')) return `${value / 10} %`;
   const time = value * unitOf(name);
   if (!unitOf(name)) return grouped(value);
@@ -31,7 +47,8 @@ function written(name, value) {
 }
 
 // The number of a key that a text means, as 10 min, 1.5s, 5 %, or without a unit in that of the key; NaN if none.
-function meant(name, text) {
+/** @param {string} name @param {string} text */
+export function meant(name, text) {
   const plain = text.replaceAll(',', '').trim(), isShare = name.endsWith('_permille');
   if (/^\d{1,16}$/.test(plain)) return Number(plain) * (isShare ? 10 : 1);
   if (isShare) return /^\d{1,3}(\.\d)? ?%?$/.test(plain) ? Math.round(parseFloat(plain) * 10) : NaN;
@@ -40,39 +57,51 @@ function meant(name, text) {
 }
 
 // The numbers on which a slider for a key stops: those of its range that are round.
-function stopsOf(key) {
-  const unit = unitOf(key.name), low = key.low, high = Math.min(key.high, 2 ** 53);
+/** @param {Key} key */
+export function stopsOf(key) {
+  const unit = unitOf(key.name), low = key.low ?? 0, high = Math.min(key.high ?? 0, 2 ** 53);
   if (high - low <= ONE_BY_ONE) return Array.from({ length: high - low + 1 }, (_, i) => low + i);
   const stops = [low, ...Array.from({ length: 10 }, (_, i) => i + 1)];
   for (let power = 10; power <= (unit ? 100 : high); power *= 10) stops.push(...ROUND.map(digit => digit * power));
   if (unit) for (const [size, steps] of TIME_STEPS) stops.push(...steps.map(step => step * size / unit));
   // past a minute, seconds are whole minutes
-  const isRound = stop => unit !== 1000 || stop <= 50 || stop % 60 === 0;
-  return ascending([...stops.filter(stop => Number.isInteger(stop) && stop >= low && stop <= high && isRound(stop)), high]);
+  const isRound = (/** @type {number} */ stop) => unit !== 1000 || stop <= 50 || stop % 60 === 0;
+  const isStop = (/** @type {number} */ stop) => Number.isInteger(stop) && stop >= low && stop <= high && isRound(stop);
+  return ascending([...stops.filter(isStop), high]);
 }
 
+/** @param {number[]} numbers */
 const ascending = numbers => [...new Set(numbers)].sort((a, b) => a - b);
 
 // Whether a path, as `actor.mailer-*.wait_s` of the command line of `sweep`, names a number of a table.
-function isNamed(path, of, name, key) {
+/** @param {string} path @param {string} of @param {unknown} name @param {string} key */
+export function isNamed(path, of, name, key) {
   const [, ofPath, glob, last] = /^([a-z]+)\.(.+)\.([a-z_]+)$/.exec(path) ?? [];
   if (ofPath !== of || last !== key) return false;
   const pattern = glob.split('*').map(part => part.replace(/[^\w-]/g, '\\$&')).join('.*');
   return new RegExp(`^${pattern}$`).test(String(name));
 }
 
-class NumberPanel {
+export class NumberPanel {
   // `changed` is called with the places in the text of the numbers that a slider has, and their new value, and `tried`
   // with the slider whose numbers are to be tried one after the other.
+  /** @param {(places: string[], value: number) => void} changed @param {(slider: Slider) => void} tried */
   constructor(changed, tried) {
-    Object.assign(this, { changed, tried, box: byId('numbers'), first: byId('first-numbers') });
+    this.changed = changed;
+    this.tried = tried;
+    this.box = byId('numbers');
+    this.first = byId('first-numbers');
+    /** @type {Slider[]} */
     this.sliders = [];
     this.shape = '';
+    /** @type {string[]} */
     this.paths = [];
+    /** @type {Map<string, boolean>} */
     this.isOpen = new Map();
   }
 
   // The numbers that the question is about, by their paths. They stand before all others.
+  /** @param {string[]} paths */
   ask(paths) {
     this.paths = paths;
     this.shape = '';
@@ -80,6 +109,7 @@ class NumberPanel {
   }
 
   // Shows the numbers of a text. If it is no TOML for now, those before stay.
+  /** @param {Scenario} scenario @param {boolean} isFresh */
   show(scenario, isFresh) {
     if (scenario.lost !== null) return;
     const all = this.numbersIn(scenario), numbers = all.slice(0, NUMBERS_MOST);
@@ -96,8 +126,11 @@ class NumberPanel {
     this.shape = '';
   }
 
+  /** @param {Scenario} scenario */
   numbersIn(scenario) {
+    /** @type {Found[]} */
     const found = [], version = versionOf(scenario);
+    /** @type {(table: Item, prefix: string, of: string, title: string) => void} */
     const look = (table, prefix, of, title) => {
       const kind = of === 'actor' ? said(table, 'kind') : '';
       for (const key of KEYS[`${of}/${kind}/${version}`] ?? []) {
@@ -118,13 +151,14 @@ class NumberPanel {
     return found;
   }
 
+  /** @param {Found[]} numbers @param {number} count */
   build(numbers, count) {
     const first = this.firstOf(numbers);
+    /** @type {Map<string, Slider[]>} */
     const groups = new Map();
     for (const number of numbers) {
       if (first.some(({ places }) => places.length === 1 && places[0] === number.place)) continue;
-      if (!groups.has(number.title)) groups.set(number.title, []);
-      groups.get(number.title).push(this.sliderOf([number]));
+      groups.set(number.title, [...groups.get(number.title) ?? [], this.sliderOf([number])]);
     }
     this.sliders = [...first, ...[...groups.values()].flat()];
     this.first.replaceChildren(...first.map(slider => slider.box));
@@ -135,8 +169,11 @@ class NumberPanel {
   }
 
   // The sliders that the question is about. A path that names nothing more than those before it has none.
+  /** @param {Found[]} numbers */
   firstOf(numbers) {
-    const taken = new Set(), sliders = [];
+    const taken = new Set();
+    /** @type {Slider[]} */
+    const sliders = [];
     for (const path of this.paths) {
       const all = numbers.filter(({ of, name, key }) => isNamed(path, of, name, key.name));
       if (all.some(({ place }) => !taken.has(place))) sliders.push(this.sliderOf(all, path));
@@ -146,6 +183,7 @@ class NumberPanel {
   }
 
   // The sliders of one table, under its name, which opens and closes them.
+  /** @param {string} title @param {Slider[]} sliders @param {boolean} isOpen */
   groupOf(title, sliders, isOpen) {
     const group = element('details', { className: 'group', open: this.isOpen.get(title) ?? isOpen },
       element('summary', { textContent: title }), ...sliders.map(slider => slider.box));
@@ -153,17 +191,40 @@ class NumberPanel {
     return group;
   }
 
+  // Opens the sliders of the first of some tables that has any, and goes to them; with none, goes to one that stands
+  // before all groups.
+  /** @param {string} kind @param {string[]} names */
+  open(kind, names) {
+    const titles = names.map(name => `${kind} ${name}`), groups = [...this.box.querySelectorAll('details')];
+    const group = groups.find(it => titles.includes(it.firstChild?.textContent ?? ''));
+    if (group) group.open = true;
+    const slider = this.sliders.find(({ tables }) => tables.some(title => titles.includes(title)));
+    const to = group ? group.querySelector('summary') : slider?.range;
+    to?.focus({ preventScroll: true });
+    to?.scrollIntoView({ block: 'nearest' });
+  }
+
+  /** @param {Found[]} numbers @param {string} [path] */
   sliderOf(numbers, path) {
     const places = numbers.map(({ place }) => place), { key, title, name } = numbers[0];
-    const of = !path ? '' : places.length > 1 ? path.split('.').slice(1, -1).join('.') : name;
-    return new Slider(key, places, of, of || title, value => this.changed(places, value), this.tried);
+    const of = !path ? '' : places.length > 1 ? path.split('.').slice(1, -1).join('.') : String(name);
+    const tables = numbers.map(it => it.title);
+    return new Slider(key, places, tables, of, of || title, value => this.changed(places, value), this.tried);
   }
 }
 
 // A slider with its field, for one number or for several that are to be the same.
-class Slider {
-  constructor(key, places, of, title, changed, tried) {
-    Object.assign(this, { key, places, of, title, changed, value: null });
+export class Slider {
+  /** @param {Key} key @param {string[]} places @param {string[]} tables @param {string} of @param {string} title
+   * @param {(value: number) => void} changed @param {(slider: Slider) => void} tried */
+  constructor(key, places, tables, of, title, changed, tried) {
+    this.key = key;
+    this.places = places;
+    this.tables = tables;
+    this.of = of;
+    this.title = title;
+    this.changed = changed;
+    this.value = 0;
     this.base = this.stops = stopsOf(key);
     const about = `${key.about}${rangeText(key)}`, id = `number-${of}-${places[0]}`;
     this.range = element('input', { type: 'range', min: 0, step: 1, id, title: about,
@@ -172,14 +233,17 @@ class Slider {
       spellcheck: false, 'aria-label': `${key.name} of ${title}, as a number`, oninput: () => this.typed(),
       onchange: () => this.show() });
     const label = element('label', { for: id, title: about }, element('code', { textContent: key.name }),
-      of ? ` of ${of}` : '', key.since > 2 ? element('span', { className: 'mark', textContent: 'version 3' }) : '');
-    const curve = element('button', { type: 'button', className: 'try', textContent: 'try 10', onclick: () => tried(this),
-      title: 'Try 10 values of this number, and draw what comes out',
+      // a hyphen before a star is no place to break the line
+      of ? ` of ${of.replaceAll('-*', '-\u2060*')}` : '',
+      key.since > 2 ? element('span', { className: 'mark', textContent: 'version 3' }) : '');
+    const curve = element('button', { type: 'button', className: 'try', textContent: 'try 10',
+      onclick: () => tried(this), title: 'Try 10 values of this number, and draw what comes out',
       'aria-label': `Try 10 values of ${key.name} of ${title}` });
-    const ends = [written(key.name, key.low), key.high > 2 ** 53 ? '…' : written(key.name, key.high)];
-    const [low, high] = ends.map(textContent => element('span', { textContent }));
+    const high = key.high ?? 0;
+    const ends = [written(key.name, key.low ?? 0), high > 2 ** 53 ? '…' : written(key.name, high)];
+    const [least, greatest] = ends.map(textContent => element('span', { textContent }));
     this.box = element('div', { className: 'number-row' }, label, this.field, curve,
-      element('div', { className: 'reach' }, low, this.range, high));
+      element('div', { className: 'reach' }, least, this.range, greatest));
   }
 
   slid() {
@@ -190,7 +254,7 @@ class Slider {
 
   typed() {
     const value = meant(this.key.name, this.field.value), { low, high } = this.key;
-    const isRight = Number.isInteger(value) && value >= low && value <= high;
+    const isRight = Number.isInteger(value) && value >= (low ?? 0) && value <= (high ?? 0);
     this.field.setAttribute('aria-invalid', String(!isRight));
     if (!isRight || value === this.value) return;
     this.value = value;
@@ -199,6 +263,7 @@ class Slider {
   }
 
   // Takes a value as if it had been slid to.
+  /** @param {number} value */
   choose(value) {
     this.value = value;
     this.place();
@@ -207,6 +272,7 @@ class Slider {
   }
 
   // Takes the number of the text.
+  /** @param {number | undefined} value */
   take(value) {
     if (value === undefined || value === this.value) return;
     this.value = value;
@@ -217,8 +283,8 @@ class Slider {
   // Puts the slider where its number is. A number that is not round is a stop as long as it is there.
   place() {
     this.stops = this.base.includes(this.value) ? this.base : ascending([...this.base, this.value]);
-    this.range.max = this.stops.length - 1;
-    this.range.value = this.stops.indexOf(this.value);
+    this.range.max = String(this.stops.length - 1);
+    this.range.value = String(this.stops.indexOf(this.value));
     this.range.setAttribute('aria-valuetext', written(this.key.name, this.value));
   }
 

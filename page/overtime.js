@@ -1,10 +1,26 @@
-// What of a run is drawn over time: numbers in columns of equal width, from a moment to another. The worker has this
-// file.
+// @ts-check
+// What of a run is drawn over time: numbers in columns of equal width, from a moment to another.
+
+import { DELAYED, IN_FLIGHT, VISIBLE } from './queue.js';
+import { nearestRank } from './units.js';
+
+/** @typedef {import('./queue.js').Queue} Queue */
+/** @typedef {{ times: { whole: ArrayLike<number> }, changes: { whole: ArrayLike<number> } }} Changes */
+/** @typedef {{ means: Float32Array, least: Float32Array, greatest: Float32Array }} Drawn */
+/** @typedef {{ from: number, to: number, columns: number, bins: number }} Over */
+/**
+ * @typedef {{ name: string, places: Drawn[], oldest: Drawn, ages: Float32Array[], redrives: Uint32Array,
+ *   expiries: Uint32Array }} QueueOverTime
+ */
 
 // The mean, the least and the greatest number in each column of time.
 class Extents {
+  /** @param {number} from @param {number} to @param {number} columns */
   constructor(from, to, columns) {
-    Object.assign(this, { from, to, columns, width: (to - from) / columns });
+    this.from = from;
+    this.to = to;
+    this.columns = columns;
+    this.width = (to - from) / columns;
     this.areas = new Float64Array(columns);
     this.known = new Float64Array(columns);
     this.least = new Float32Array(columns).fill(NaN);
@@ -12,6 +28,7 @@ class Extents {
   }
 
   // Adds a number that goes evenly from `first` to `last` between two moments.
+  /** @param {number} begin @param {number} end @param {number} first @param {number} last */
   add(begin, end, first, last) {
     const low = Math.max(begin, this.from), high = Math.min(end, this.to);
     if (high <= low) return;
@@ -24,6 +41,7 @@ class Extents {
     }
   }
 
+  /** @param {number} column @param {number} time @param {number} first @param {number} last */
   addIn(column, time, first, last) {
     this.areas[column] += time * (first + last) / 2;
     this.known[column] += time;
@@ -32,6 +50,7 @@ class Extents {
     if (!(this.greatest[column] >= high)) this.greatest[column] = high;
   }
 
+  /** @returns {Drawn} */
   get drawn() {
     const means = new Float32Array(this.columns);
     for (let i = 0; i < this.columns; i++) means[i] = this.known[i] ? this.areas[i] / this.known[i] : NaN;
@@ -40,12 +59,13 @@ class Extents {
 }
 
 // How many messages of a queue are in each place. What changes back within a millisecond is left out.
-function placesOverTime(queue, from, to, columns) {
+/** @param {Changes} queue @param {number} from @param {number} to @param {number} columns */
+export function placesOverTime(queue, from, to, columns) {
   const extents = [VISIBLE, IN_FLIGHT, DELAYED].map(() => new Extents(from, to, columns));
   const times = queue.times.whole, changes = queue.changes.whole;
   // the numbers by now, and those that are not added yet with their times
   const now = [0, 0, 0, 0], held = [0, 0, 0], since = [from, from, from];
-  const note = (until, isEnd) => {
+  const note = (/** @type {number} */ until, /** @type {boolean} */ isEnd) => {
     for (let place = 0; place < 3; place++) {
       if (!isEnd && now[place] === held[place]) continue;
       extents[place].add(since[place], until, held[place], held[place]);
@@ -67,6 +87,7 @@ function placesOverTime(queue, from, to, columns) {
 }
 
 // The age of the oldest message; none while the queue is empty.
+/** @param {Queue} queue @param {number} from @param {number} to @param {number} columns */
 function oldestOverTime(queue, from, to, columns) {
   const extent = new Extents(from, to, columns), at = queue.oldestAt.whole, sinces = queue.sinces.whole;
   for (let i = 0; i < at.length; i++) {
@@ -76,10 +97,12 @@ function oldestOverTime(queue, from, to, columns) {
   return extent.drawn;
 }
 
+/** @param {number} time @param {number} from @param {number} to @param {number} bins */
 const binOf = (time, from, to, bins) =>
   time < from || time > to ? -1 : Math.min(bins - 1, Math.floor((time - from) / (to - from) * bins));
 
 // The middle, 95 % and greatest age of messages by when they were deleted; none in a bin without any.
+/** @param {Queue} queue @param {number} from @param {number} to @param {number} bins */
 function agesOverTime(queue, from, to, bins) {
   const found = [50, 95, 100].map(() => new Float32Array(bins).fill(NaN));
   const times = queue.deletedAt.whole, ages = queue.ages.whole;
@@ -89,14 +112,15 @@ function agesOverTime(queue, from, to, bins) {
     while (last < times.length && binOf(times[last], from, to, bins) === bin) last++;
     if (bin >= 0) {
       const here = ages.slice(first, last).sort();
-      [50, 95, 100].forEach((percent, i) => { found[i][bin] = nearestRank(here, percent); });
+      [50, 95, 100].forEach((percent, i) => { found[i][bin] = nearestRank(here, percent) ?? NaN; });
     }
     first = last;
   }
   return found;
 }
 
-function countsOverTime(times, from, to, bins) {
+/** @param {Iterable<number>} times @param {number} from @param {number} to @param {number} bins */
+export function countsOverTime(times, from, to, bins) {
   const counts = new Uint32Array(bins);
   for (const time of times) {
     const bin = binOf(time, from, to, bins);
@@ -106,9 +130,10 @@ function countsOverTime(times, from, to, bins) {
 }
 
 // All of it for some queues of a run. `columns` are as wide as a pixel, and `bins` are wider.
-function overTime(run, names, { from, to, columns, bins }) {
+/** @param {import('./run.js').Run} run @param {string[]} names @param {Over} over @returns {QueueOverTime[]} */
+export function overTime(run, names, { from, to, columns, bins }) {
   const most = Math.max(1, Math.min(columns, to - from)), wide = Math.max(1, Math.min(bins, to - from));
-  return names.map(name => run.byName.get(name)).filter(queue => queue).map(queue => ({
+  return names.flatMap(name => run.byName.get(name) ?? []).map(queue => ({
     name: queue.name, places: placesOverTime(queue, from, to, most), oldest: oldestOverTime(queue, from, to, most),
     ages: agesOverTime(queue, from, to, wide), redrives: countsOverTime(queue.redrivenAt.whole, from, to, wide),
     expiries: countsOverTime(queue.expiredAt.whole, from, to, wide) }));

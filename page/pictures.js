@@ -1,5 +1,13 @@
-// The pictures over time: a figure for each queue, with a picture for each variant beside it on the same axes. The page
-// has this file. It asks the worker's overtime.js for what figure.js draws.
+// @ts-check
+// The pictures over time: a figure for each queue, with a picture for each variant beside it on the same axes. It asks
+// the worker's overtime.js for what figure.js draws.
+
+import { greatestBy, mainQueues } from './answer.js';
+import { byId, inputById, setText } from './dom.js';
+import { Figure, LEFT, MISSING, RIGHT } from './figure.js';
+import { clock, duration, grouped } from './units.js';
+
+/** @typedef {import('./side.js').Side} Side */
 
 const QUEUES_MOST = 12;
 // What is at the end without a change is cut, if it is more than this part of the run.
@@ -7,17 +15,28 @@ const IDLE_LEAST = 0.2;
 // The spread over seeds is drawn in so many columns over the whole run, and of ages in so many.
 const SPREAD_COLUMNS = 400, SPREAD_BINS = 80;
 
-class Pictures {
-  // `require` is the requirement, which is a line in the pictures.
-  constructor(require) {
+export class Pictures {
+  // `require` is the requirement, which is a line in the pictures, and `network` is shown at the same moment.
+  /** @param {import('./require.js').Requirement} require @param {import('./network_view.js').NetworkView} network */
+  constructor(require, network) {
     this.require = require;
+    this.network = network;
+    this.isPlayed = false;
+    /** @type {Side[]} */
+    this.sides = [];
+    this.whole = this.end = 1;
+    this.moved = 0;
     this.box = byId('pictures');
-    this.slider = byId('moment');
+    this.slider = inputById('moment');
+    /** @type {[number, number] | null} */
     this.zoom = null;
+    /** @type {Figure[]} */
     this.figures = [];
+    // the moment is the end of what is shown until the reader chooses another one
     this.moment = 0;
+    this.isAtEnd = true;
     this.asked = 0;
-    this.slider.oninput = () => this.point(this.from + (this.to - this.from) * this.slider.value / 1000);
+    this.slider.oninput = () => this.point(this.from + (this.to - this.from) * Number(this.slider.value) / 1000);
     byId('zoom-in').onclick = () => this.zoomBy(1 / 4);
     byId('zoom-out').onclick = () => this.zoomBy(4);
     byId('zoom-whole').onclick = () => this.zoomWhole();
@@ -25,15 +44,16 @@ class Pictures {
     new ResizeObserver(([{ contentRect }]) => {
       const isOther = Math.abs(contentRect.width - this.width) > 4;
       if (contentRect.width) this.width = contentRect.width;
-      if (isOther && this.sides) this.draw();
+      if (isOther && this.sides.length) this.draw();
     }).observe(this.box);
   }
 
   // Shows the runs of some variants, with the spread of each over seeds, if there is one.
+  /** @param {Side[]} sides */
   show(sides) {
     this.sides = sides;
-    this.whole = Math.max(1, ...sides.map(({ result }) => result.last ?? 1));
-    this.moved = Math.max(...sides.map(({ result }) => result.moved));
+    this.whole = Math.max(1, ...sides.map(({ outcome }) => outcome.last ?? 1));
+    this.moved = Math.max(...sides.map(({ outcome }) => outcome.moved));
     const soon = this.moved + Math.floor(this.moved / 20) + 1;
     this.end = this.moved && soon < this.whole * (1 - IDLE_LEAST) ? soon : this.whole;
     if (this.zoom && this.zoom[0] >= this.whole) this.zoom = null;
@@ -59,6 +79,7 @@ class Pictures {
     return this.zoom ? this.zoom[1] : this.end;
   }
 
+  /** @param {number} factor */
   zoomBy(factor) {
     const width = (this.to - this.from) * factor;
     if (width >= this.end) return this.zoomTo(null);
@@ -72,6 +93,7 @@ class Pictures {
   }
 
   // Shows the time from a moment to another, at least 20 ms; null is all but what is cut.
+  /** @param {[number, number] | null} zoom */
   zoomTo(zoom) {
     this.zoom = zoom && [Math.round(zoom[0]), Math.max(Math.round(zoom[0]) + 20, Math.round(zoom[1]))];
     return this.draw();
@@ -79,12 +101,14 @@ class Pictures {
 
   // The queues to draw: the busiest, in the order of the scenario.
   chosen() {
+    /** @type {Map<string, number>} */
     const weights = new Map();
-    for (const { result } of this.sides) {
-      result.values.forEach(({ queue }, i) => weights.set(queue, Math.max(weights.get(queue) ?? 0, result.busiest[i])));
+    for (const { outcome } of this.sides) {
+      outcome.values.forEach(({ queue }, i) =>
+        weights.set(queue, Math.max(weights.get(queue) ?? 0, outcome.busiest[i])));
     }
     const names = [...weights.keys()], least = [...weights.values()].sort((a, b) => b - a)[QUEUES_MOST - 1] ?? 0;
-    const chosen = names.filter(name => weights.get(name) >= least).slice(0, QUEUES_MOST);
+    const chosen = names.filter(name => (weights.get(name) ?? 0) >= least).slice(0, QUEUES_MOST);
     setText(byId('pictures-note'), names.length > chosen.length
       ? `The ${chosen.length} busiest of ${grouped(names.length)} queues are drawn.` : '');
     return chosen;
@@ -98,23 +122,42 @@ class Pictures {
     const columns = width - LEFT - RIGHT, question = { names, from, to, columns, bins: Math.ceil(columns / 8) };
     const drawn = await Promise.all(this.sides.map(side => side.over(question)));
     if (asked !== this.asked) return;
-    const room = { from, to, width, require: this.require, end: this.toldOfEnd, point: time => this.point(time),
+    /** @type {import('./figure.js').Room} */
+    const room = { from, to, width, require: this.require, end: this.toldOfEnd, 
+      point: time => { if (!this.isPlayed) this.point(time); },
       zoomTo: zoom => this.zoomTo(zoom), zoomWhole: () => this.zoomWhole() };
-    const sharesOf = name => this.sides.map((side, i) => ({ side, spread: side.spread?.queues.get(name),
-      data: drawn[i].find(it => it.name === name) ?? MISSING }));
+    const sharesOf = (/** @type {string} */ name) => this.sides.map((side, i) => ({ side,
+      spread: side.spread?.queues.get(name), data: drawn[i].find(it => it.name === name) ?? MISSING }));
     this.figures = names.map(name => new Figure(name, sharesOf(name), room));
     this.box.replaceChildren(...this.figures.map(figure => figure.box));
-    this.point(Math.min(Math.max(this.moment, from), to));
+    this.glance(names, sharesOf, room);
+    this.point(this.isAtEnd ? to : Math.min(Math.max(this.moment, from), to));
+    await this.network.show(this.sides, from, to);
   }
 
+  // Draws one queue small, for narrow screens, where it stays in view above the sliders: that with the greatest
+  // backlog.
+  /** @param {string[]} names @param {(name: string) => import('./figure.js').Share[]} sharesOf
+   * @param {import('./figure.js').Room} room */
+  glance(names, sharesOf, room) {
+    const { outcome } = this.sides[this.sides.length - 1], only = this.require.panel ?? 'places';
+    const deepest = greatestBy(mainQueues(outcome).filter(({ queue }) => names.includes(queue)), 'depth_greatest');
+    const figure = deepest && new Figure(deepest.queue, sharesOf(deepest.queue).slice(-1), { ...room, only, end: '' });
+    byId('glance-picture').replaceChildren(...figure ? [figure.box.querySelector('svg') ?? ''] : []);
+    if (figure) this.figures.push(figure);
+  }
+
+  /** @param {number} time */
   point(time) {
     this.moment = Math.round(time);
+    this.isAtEnd = this.moment >= this.to;
     const share = (this.moment - this.from) / (this.to - this.from);
-    if (document.activeElement !== this.slider) this.slider.value = Math.round(1000 * share);
-    this.slider.setAttribute('aria-valuetext', `${duration(this.moment)}: ${this.figures.map(figure =>
-      figure.wordsAt(share)).join('; ')}`);
+    if (document.activeElement !== this.slider) this.slider.value = String(Math.round(1000 * share));
+    const words = this.figures.filter(({ room }) => !room.only).map(figure => figure.wordsAt(share)).join('; ');
+    this.slider.setAttribute('aria-valuetext', `${duration(this.moment)}: ${words}`);
     setText(byId('moment-value'), clock(this.moment));
     for (const figure of this.figures) figure.point(share);
+    this.network.point(share);
   }
 }
 

@@ -1,23 +1,29 @@
-// What the rows of one queue say: the numbers of tools/summary, and what changes when. The worker has this file. What
-// is counted, and by which rows, is written in tools/summary; the tests compare the numbers.
+// @ts-check
+// What the rows of one queue say: the numbers of tools/summary, and what changes when. What is counted, and by which
+// rows, is written in tools/summary; the tests compare the numbers.
 
-const VISIBLE = 0, IN_FLIGHT = 1, DELAYED = 2, NOWHERE = 3;
+import { BACKLOG } from './facts.js';
+import { Numbers, RECEIVES } from './log.js';
+
+export const VISIBLE = 0, IN_FLIGHT = 1, DELAYED = 2, NOWHERE = 3;
 // A change is four times the place that a message leaves and the place that it comes to.
-const ENTERED = 4 * NOWHERE + VISIBLE, ENTERED_DELAYED = 4 * NOWHERE + DELAYED;
+export const ENTERED = 4 * NOWHERE + VISIBLE, ENTERED_DELAYED = 4 * NOWHERE + DELAYED;
 const GONE = -1 - NOWHERE;
-const WAITING = -1;
-const BACKLOG = 10;
+export const WAITING = -1;
 // Of ages of new and of moved messages so many leading bits are kept.
 const AGE_BITS = 16;
 
-const leading = age => {
+/** @param {number} age */
+export const leading = age => {
   const shift = Math.max(0, 32 - Math.clz32(age) - AGE_BITS);
   return age >= 2 ** 32 ? age : (age >>> shift) * 2 ** shift;
 };
 
-class Queue {
-  constructor(name, number, run) {
-    Object.assign(this, { name, number, run });
+export class Queue {
+  /** @param {string} name @param {number} number */
+  constructor(name, number) {
+    this.name = name;
+    this.number = number;
     // by the number of a message: when it came, its place as -1 - place or the index of its coming in `changes` if it
     // has not moved since, its receives, how many of them were handled, and whether a move task brought it
     this.came = new Numbers(Uint32Array);
@@ -37,28 +43,42 @@ class Queue {
     this.sinces = new Numbers(Float64Array);
     this.oldest = 0;
     // receipts that were not used yet, and the last answer that an agent had
+    /** @type {Set<number>} */
     this.receipts = new Set();
+    /** @type {Map<string, number>} */
     this.polls = new Map();
     this.left = this.inFlight = this.onTheirWay = this.polled = 0;
     this.byForward = this.byMove = this.received = this.handledOnce = this.handledMore = this.ageSum = 0;
     this.triesMost = this.timesHandledMost = 1;
     this.depth = 0;
-    this.depthAt = this.filledAt = this.backlogSince = this.backlogGone = null;
+    /** @type {number | null} */
+    this.depthAt = null;
+    /** @type {number | null} */
+    this.filledAt = null;
+    /** @type {number | null} */
+    this.backlogSince = null;
+    /** @type {number | null} */
+    this.backlogGone = null;
+    /** @type {Set<string>} */
     this.deadLetteredTo = new Set();
+    /** @type {Set<string>} */
     this.movedTo = new Set();
   }
 
+  /** @param {number} time @param {number} change */
   changed(time, change) {
     this.times.push(time);
     this.changes.push(change);
   }
 
+  /** @param {number} time @param {number} message @param {number} place */
   put(time, message, place) {
     const stands = this.stands.items[message];
     this.changed(time, stands >= 0 ? place : 4 * (-1 - stands) + place);
     this.stands.items[message] = -1 - place;
   }
 
+  /** @param {number} time @param {number} message */
   enters(time, message) {
     if (this.oldest === this.stands.length) {
       this.oldestAt.push(time);
@@ -77,12 +97,14 @@ class Queue {
   }
 
   // Whether more wait than are no backlog, from a moment on.
+  /** @param {number} time */
   notesBacklog(time) {
     const is = this.left - this.inFlight > BACKLOG;
     if (is && this.backlogSince === null) this.backlogSince = time;
     if (!is && this.backlogSince !== null) [this.backlogSince, this.backlogGone] = [null, time];
   }
 
+  /** @param {number} time @param {number} message */
   leaves(time, message) {
     const stands = this.stands.items;
     if (stands[message] === -1 - IN_FLIGHT) this.inFlight--;
@@ -99,6 +121,7 @@ class Queue {
     }
   }
 
+  /** @param {number} time @param {string} agent @param {number} message @param {number} receipt */
   receivesOne(time, agent, message, receipt) {
     const tries = ++this.receives.items[message];
     this.put(time, message, IN_FLIGHT);
@@ -113,6 +136,7 @@ class Queue {
     if (answered !== WAITING) this.polled++;
   }
 
+  /** @param {number} time @param {number} message */
   releases(time, message) {
     const stands = this.stands.items[message];
     if (stands === -1 - IN_FLIGHT) this.inFlight--;
@@ -122,6 +146,7 @@ class Queue {
   }
 
   // Takes in, if a message has not moved since it came, that it has been delayed since.
+  /** @param {number} message */
   wasDelayed(message) {
     const stands = this.stands.items[message];
     if (stands < 0) return;
@@ -129,6 +154,7 @@ class Queue {
     this.stands.items[message] = -1 - DELAYED;
   }
 
+  /** @param {number} message */
   handles(message) {
     const times = ++this.handled.items[message];
     if (times === 1) this.handledOnce++;
@@ -136,6 +162,7 @@ class Queue {
     if (times > this.timesHandledMost) this.timesHandledMost = times;
   }
 
+  /** @param {number} time @param {number} message @param {number} receipt @param {number} age */
   deletes(time, message, receipt, age) {
     this.ages.push(age);
     this.deletedAt.push(time);
@@ -147,6 +174,7 @@ class Queue {
   }
 
   // A call of delete that deleted nothing: it may still be the first with its receipt.
+  /** @param {number} receipt */
   usesReceipt(receipt) {
     if (this.receipts.delete(receipt)) this.handles(Math.floor(receipt / RECEIVES));
   }

@@ -1,29 +1,46 @@
-// A run as its queues: gives each row to its queue, and makes the numbers that tools/summary prints. The worker has
-// this file.
+// @ts-check
+// A run as its queues: gives each row to its queue, and makes the numbers that tools/summary prints.
 
-const ACTIONS = { send: 'SendMessage', receive: 'ReceiveMessage', delete: 'DeleteMessage',
-  change: 'ChangeMessageVisibility', start: 'StartMessageMoveTask', cancel: 'CancelMessageMoveTask' };
-// What is counted of a queue by the kinds of its rows alone.
-const BY_KIND = { sent: ['send,new'], repeated_sends: ['send,repeat', 'arrive,repeat'], deleted: ['delete,deleted'],
-  receives: ['receive,ok'], failed_services: ['fail,ok'], forwarded: ['forward,out'], moved_away: ['move,out'],
-  dead_lettered: ['redrive,out'], lost_by_expiry: ['expire,expired'], empty_receives: ['receive,empty'] };
+import { ACTIONS, BACKLOG, BY_KIND, REFUSALS } from './facts.js';
+import { DASH, LINE_END, Numbers, ZERO, readRows, recordsOf } from './log.js';
+import { TOLD_ROWS } from './moments.js';
+import { Queue, WAITING, leading } from './queue.js';
+import { fixed, nearestRank, textOf } from './units.js';
 
-class Run {
+/** @typedef {import('./log.js').Head} Head */
+/** @typedef {import('./facts.js').ByKind | import('./facts.js').Action | 'came_by_forward' | 'came_by_move'
+ *   | 'came_by_redrive' | 'refused_requests'} Counted */
+/** @typedef {Record<Counted, number>} Counts */
+/** @typedef {ReturnType<Run['valuesOf']>} Values The numbers of a queue, by the keys of `tools/summary --json`. */
+
+export class Run {
+  /** @param {Uint8Array} bytes */
   constructor(bytes) {
+    /** @type {Uint8Array} */
     this.bytes = bytes;
+    /** @type {Set<string>} */
     this.tasks = new Set();
     // names by number, then the rows, then what follows them
     const report = recordsOf(bytes, this.reportAt(), 'report');
     this.columns = report[0];
-    this.queues = report.slice(1).map((record, number) => new Queue(record[1], number, this));
+    this.queues = report.slice(1).map((record, number) => new Queue(record[1], number));
     this.report = report.slice(1);
     this.byName = new Map(this.queues.map(queue => [queue.name, queue]));
-    const read = readRows(bytes, (...texts) => this.headOf(...texts));
-    Object.assign(this, read);
+    const { starts, end, heads, last } = readRows(bytes, (...texts) => this.headOf(...texts));
+    this.starts = starts;
+    this.end = end;
+    this.heads = heads;
+    this.last = last;
     for (const [, queue, message, , place] of recordsOf(bytes, this.end, 'final').slice(1)) {
-      if (place === 'delayed') this.byName.get(queue).wasDelayed(Number(message.split('-')[2]));
+      if (place === 'delayed') this.queueOf(queue).wasDelayed(Number(message.split('-')[2]));
     }
-    this.moved = Math.max(0, ...this.queues.map(queue => queue.times.length ? queue.times.whole.at(-1) : 0));
+    this.moved = Math.max(0, ...this.queues.map(({ times }) => times.length ? times.items[times.length - 1] : 0));
+  }
+
+  // The queue of a name that the report has.
+  /** @param {string} name */
+  queueOf(name) {
+    return /** @type {Queue} */ (this.byName.get(name));
   }
 
   // Where the report begins; it is the last part.
@@ -36,12 +53,16 @@ class Run {
     return at + 1;
   }
 
+  /** @param {string} name @param {string} agent @param {string} call @param {string} answer
+   * @returns {import('./log.js').Made} */
   headOf(name, agent, call, answer) {
-    const queue = this.byName.get(name), kind = `${call},${answer}`;
+    const queue = this.queueOf(name), kind = `${call},${answer}`;
     const take = TAKERS[kind] ?? (call === 'delete' ? TAKERS['delete,gone'] : () => {});
-    return { queue, number: queue.number, agent, call, kind, take: take.bind(this) };
+    return { queue, number: queue.number, agent, call, kind, take: take.bind(this),
+      times: TOLD_ROWS.includes(kind) ? new Numbers(Uint32Array) : null };
   }
 
+  /** @param {number} from @param {number} to */
   numberAt(from, to) {
     let number = 0;
     for (let at = from; at < to; at++) number = number * 10 + this.bytes[at] - ZERO;
@@ -49,23 +70,28 @@ class Run {
   }
 
   // Whether an arrival is of a forward, which makes a new message: its origin `o-Q-N` has the numbers of its own id.
+  /** @param {Head} head @param {number} message @param {number} from @param {number} to */
   isForward(head, message, from, to) {
     const dash = this.bytes.indexOf(DASH, from + 2);
     return this.numberAt(from + 2, dash) === head.number && this.numberAt(dash + 1, to) === message;
   }
 
   // The queue to which a row says that a message goes: for most rows the one of the row before with its head.
+  /** @param {Head} head @param {number} from @param {number} to */
   goesTo(head, from, to) {
-    const last = head.went;
-    let isSame = last !== undefined && last.length === to - from;
-    for (let i = 0; isSame && i < last.length; i++) isSame = this.bytes[last.from + i] === this.bytes[from + i];
-    if (!isSame) head.went = { from, length: to - from, queue: this.byName.get(textOf(this.bytes, from, to)) };
-    head.went.queue.onTheirWay++;
-    return head.went.queue.name;
+    const last = head.went, length = last?.length === to - from ? to - from : 0;
+    let isSame = length > 0;
+    for (let i = 0; last && isSame && i < length; i++) isSame = this.bytes[last.from + i] === this.bytes[from + i];
+    if (!isSame) head.went = { from, length: to - from, queue: this.queueOf(textOf(this.bytes, from, to)) };
+    const { queue } = /** @type {NonNullable<Head['went']>} */ (head.went);
+    queue.onTheirWay++;
+    return queue.name;
   }
 
+  /** @param {Queue} queue */
   countsOf(queue) {
-    const kinds = {}, calls = {};
+    /** @type {Record<string, number>} */
+    const kinds = {}, calls = /** @type {Record<string, number>} */ ({});
     let refused = 0;
     for (const head of this.heads) {
       if (head.queue !== queue) continue;
@@ -73,8 +99,9 @@ class Run {
       calls[head.call] = (calls[head.call] ?? 0) + head.rows;
       if (REFUSALS.includes(head.kind.split(',')[1])) refused += head.rows;
     }
-    const sum = names => names.reduce((all, name) => all + (kinds[name] ?? 0), 0);
-    const counts = Object.fromEntries(Object.entries(BY_KIND).map(([key, names]) => [key, sum(names)]));
+    const sum = (/** @type {string[]} */ names) => names.reduce((all, name) => all + (kinds[name] ?? 0), 0);
+    const counts = /** @type {Counts} */ (Object.fromEntries(Object.entries(BY_KIND)
+      .map(([key, names]) => [key, sum(names)])));
     for (const [call, action] of Object.entries(ACTIONS)) counts[action] = calls[call] ?? 0;
     counts.came_by_forward = queue.byForward;
     counts.came_by_move = queue.byMove;
@@ -86,11 +113,12 @@ class Run {
   }
 
   // The numbers of a queue by the keys of `tools/summary --json`.
+  /** @param {Queue} queue */
   valuesOf(queue) {
     const counts = this.countsOf(queue), ages = queue.ages.whole.slice().sort();
     const came = counts.sent + counts.came_by_forward + counts.came_by_redrive + counts.came_by_move;
     const handled = queue.handledOnce + queue.handledMore, record = this.report[queue.number];
-    const reported = column => Number(record[this.columns.indexOf(column)]);
+    const reported = (/** @type {string} */ column) => Number(record[this.columns.indexOf(column)]);
     const any = ages.length > 0;
     return {
       queue: queue.name, came_in: came, ...counts, handled_once: queue.handledOnce,
@@ -100,9 +128,10 @@ class Run {
       tries_mean: queue.received ? Number(fixed(counts.receives / queue.received, 3)) : null,
       tries_greatest: queue.received ? queue.triesMost : null,
       left: queue.left, left_visible: reported('visible'), left_in_flight: queue.inFlight,
-      left_delayed: reported('delayed'), left_visible_or_delayed: queue.left - queue.inFlight,
-      on_their_way_here: queue.onTheirWay, age_p50_ms: nearestRank(ages, 50), age_p95_ms: nearestRank(ages, 95),
-      age_p99_ms: nearestRank(ages, 99), age_greatest_ms: any ? ages.at(-1) : null, ...this.agesApart(queue, ages),
+      left_delayed: reported('delayed'), on_their_way_here: queue.onTheirWay,
+      age_p50_ms: nearestRank(ages, 50), age_p95_ms: nearestRank(ages, 95),
+      age_p99_ms: nearestRank(ages, 99), age_greatest_ms: any ? ages[ages.length - 1] : null,
+      ...this.agesApart(queue, ages),
       depth_greatest: queue.depth, depth_greatest_at_ms: queue.depthAt,
       backlog_gone_at_ms: queue.backlogSince === null ? queue.backlogGone : null,
       backlog_since_ms: queue.backlogSince, backlog_over: BACKLOG,
@@ -112,8 +141,11 @@ class Run {
   }
 
   // The ages of new messages and of those that a move task brought, if it brought any that were deleted.
+  /** @param {Queue} queue @param {Uint32Array} ages */
   agesApart(queue, ages) {
-    const moved = queue.movedAges.whole.slice().sort().map(leading), fresh = [];
+    const moved = queue.movedAges.whole.slice().sort().map(leading);
+    /** @type {number[]} */
+    const fresh = [];
     let next = 0;
     if (moved.length) {
       for (const age of ages.map(leading)) {
@@ -128,6 +160,7 @@ class Run {
   // The numbers of all queues, and whether the report of the run agrees with those that it has too.
   values() {
     const values = this.queues.map(queue => this.valuesOf(queue));
+    /** @type {[string, keyof Values][]} */
     const pairs = [['sends', 'sent'], ['repeats', 'repeated_sends'], ['receives', 'receives'], ['empties',
       'empty_receives'], ['deletes', 'deleted'], ['expiries', 'lost_by_expiry'], ['redrives', 'dead_lettered'],
     ['moves', 'moved_away'], ['depth_max', 'depth_greatest'], ['in_flight', 'left_in_flight'], ['age_p50',
@@ -144,6 +177,7 @@ class Run {
 }
 
 // What is done with a row, by its call and answer. `this` is the run.
+/** @type {Record<string, (this: Run, ...row: Parameters<import('./log.js').Taker>) => void>} */
 const TAKERS = {
   'send,new'(time, head, message) { head.queue.enters(time, message); },
   'arrive,new'(time, head, message, receipt, from, to) {

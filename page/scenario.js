@@ -1,7 +1,15 @@
-// The text of a scenario as what it has, with the place of each key and value. The page has this file.
+// @ts-check
+// The text of a scenario as what it has, with the place of each key and value.
 //
 // It reads TOML to find places, and judges nothing: the program does that. A node is { type, value, key, from, to }:
 // where its key begins, and where its value begins and ends. `lost` is where the text stops to be TOML, else null.
+
+/** @typedef {'text' | 'truth' | 'integer' | 'float' | 'list' | 'table' | 'date'} Kind */
+/**
+ * What a text has at a place. A table's value is a map of its keys, and a list's an array.
+ * @typedef {{ type: Kind, value: any, key: number, from: number, to: number }} Item
+ */
+/** @typedef {{ type: Kind, value: unknown }} Value */
 
 class Lost extends Error {}
 
@@ -10,12 +18,15 @@ const BARE_KEY = /[A-Za-z0-9_-]+/y, BARE_VALUE = /[^\s,\]}#]+(?: [0-9][^\s,\]}#]
 const SHORT_STRING = /"(?:[^"\\\n]|\\.)*"|'[^'\n]*'/y;
 const INTEGER = /^[+-]?(?:0|[1-9](?:_?[0-9])*|0x[0-9a-fA-F_]+|0o[0-7_]+|0b[01_]+)$/;
 const FLOAT = /^[+-]?(?:inf|nan|[0-9][0-9_]*(?:\.[0-9_]+)?(?:[eE][+-]?[0-9_]+)?)$/;
+/** @type {Record<string, string>} */
 const ESCAPES = { b: '\b', t: '\t', n: '\n', f: '\f', r: '\r', '"': '"', '\\': '\\' };
-const PLACE = /^(queue|actor|task)\[([0-9]+)\](?:\.([^]*))?$/;
+export const PLACE = /^(queue|actor|task)\[([0-9]+)\](?:\.([^]*))?$/;
 
-const tableNode = more => ({ type: 'table', value: new Map(), ...more });
+/** @param {{ key?: number, from?: number, to?: number }} more @returns {Item} */
+const tableNode = more => ({ type: 'table', value: new Map(), key: 0, from: 0, to: 0, ...more });
 
 // What a text in quotes says.
+/** @param {string} quoted */
 function textIn(quoted) {
   const isLong = quoted.startsWith('"""') || quoted.startsWith("'''");
   const inner = isLong ? quoted.slice(3, -3).replace(/^\r?\n/, '') : quoted.slice(1, -1);
@@ -26,10 +37,13 @@ function textIn(quoted) {
   });
 }
 
-class Scenario {
+export class Scenario {
+  /** @param {string} text */
   constructor(text) {
     this.text = text;
+    /** @type {Item} */
     this.top = tableNode({ key: 0, from: 0, to: 0 });
+    /** @type {number | null} */
     this.lost = null;
     this.at = 0;
     try {
@@ -41,6 +55,7 @@ class Scenario {
   }
 
   // The text that a pattern finds here, which is passed; null if it finds none.
+  /** @param {RegExp} pattern */
   takes(pattern) {
     pattern.lastIndex = this.at;
     const found = pattern.exec(this.text);
@@ -49,11 +64,13 @@ class Scenario {
     return found[0];
   }
 
+  /** @template T @param {T | null | false | undefined} found @returns {T} */
   needs(found) {
     if (found === null || found === false || found === undefined) throw new Lost();
     return found;
   }
 
+  /** @param {string} wanted */
   character(wanted) {
     if (this.text[this.at] !== wanted) throw new Lost();
     this.at++;
@@ -70,6 +87,7 @@ class Scenario {
   }
 
   // A header, `[table]` or `[[table]]`; gives the table that follows.
+  /** @returns {Item} */
   header() {
     const key = this.at, isList = this.text.startsWith('[[', key);
     this.at += isList ? 2 : 1;
@@ -92,6 +110,7 @@ class Scenario {
   }
 
   // The table of a word in a table, which is made if it is not there.
+  /** @param {Item} table @param {string} word @param {number} key @returns {Item} */
   inner(table, word, key) {
     if (!table.value.has(word)) table.value.set(word, tableNode({ key, from: key, to: key }));
     const node = table.value.get(word);
@@ -111,6 +130,7 @@ class Scenario {
     }
   }
 
+  /** @param {Item} table */
   pair(table) {
     const key = this.at, words = this.words(), last = words.pop();
     this.character('=');
@@ -123,13 +143,16 @@ class Scenario {
     inside.value.set(last, { ...this.value(), key });
   }
 
+  /** @returns {Item} */
   value() {
     const from = this.at, first = this.text[from];
+    /** @type {Value} */
     const node = first === '"' || first === "'" ? this.string() : first === '[' ? this.list()
       : first === '{' ? this.inlineTable() : this.bare();
-    return { key: from, ...node, from, to: this.at };
+    return { ...node, key: from, from, to: this.at };
   }
 
+  /** @returns {Value} */
   string() {
     for (const mark of ['"""', "'''"]) {
       if (!this.text.startsWith(mark, this.at)) continue;
@@ -143,6 +166,7 @@ class Scenario {
     return { type: 'text', value: textIn(this.needs(this.takes(SHORT_STRING))) };
   }
 
+  /** @returns {Value} */
   list() {
     const items = [];
     this.at++;
@@ -156,6 +180,7 @@ class Scenario {
     return { type: 'list', value: items };
   }
 
+  /** @returns {Value} */
   inlineTable() {
     const table = tableNode({});
     this.at++;
@@ -169,6 +194,7 @@ class Scenario {
     return table;
   }
 
+  /** @returns {Value} */
   bare() {
     const from = this.at, text = this.needs(this.takes(BARE_VALUE));
     if (text === 'true' || text === 'false') return { type: 'truth', value: text === 'true' };
@@ -181,12 +207,14 @@ class Scenario {
   }
 
   // The items of `queue`, `actor` or `task`; none if it is no list.
+  /** @param {string} of @returns {Item[]} */
   items(of) {
     const list = this.top.value.get(of);
     return list && list.type === 'list' ? list.value : [];
   }
 
   // The line and the column of a position, both from 1; a byte order mark does not count.
+  /** @param {number} at @returns {[number, number]} */
   lineAndColumn(at) {
     const start = this.text.lastIndexOf('\n', at - 1) + 1, mark = start === 0 && this.text[0] === '\ufeff' ? 1 : 0;
     return [this.text.slice(0, at).split('\n').length, at - start + 1 - mark];
@@ -194,4 +222,5 @@ class Scenario {
 }
 
 // What a node of a table says, or undefined.
-const said = (table, key) => table && table.type === 'table' ? table.value.get(key)?.value : undefined;
+/** @param {Item | undefined} table @param {string} key @returns {unknown} */
+export const said = (table, key) => table && table.type === 'table' ? table.value.get(key)?.value : undefined;

@@ -1,11 +1,22 @@
-// A variant of the scenario: its text and its script files, the worker that runs it, and what came out. The page has
-// this file.
+// @ts-check
+// A variant of the scenario: its text and its script files, the worker that runs it, and what came out.
+
+import { forDeadLetters } from './answer.js';
+import { Asker } from './asker.js';
+import { SHORT_LINES, SHORT_MOST, isShort } from './editor.js';
+import { Scenario, said } from './scenario.js';
+import { grouped } from './units.js';
+
+/** @typedef {import('./scenario.js').Item} Item */
+/** @typedef {import('./link.js').File} File */
+/** @typedef {import('./worker.js').Answer & { forDeadLetters: string[] }} Outcome */
 
 // A run of more rows does not begin by itself, as far as they can be foreseen.
-const FORESEEN_MOST = 2e6;
+export const FORESEEN_MOST = 2e6;
 // About so many rows a message has, so many bytes a record of a script, and so many ms an empty receive's rest.
 const ROWS_OF_MESSAGE = 4, BYTES_OF_RECORD = 16, REST = 1000;
 
+/** @param {Item | undefined} table @param {string} key @param {number} other */
 const numberIn = (table, key, other) => {
   const value = said(table, key);
   return typeof value === 'bigint' ? Number(value) : other;
@@ -13,8 +24,10 @@ const numberIn = (table, key, other) => {
 
 // About how many rows one actor gives, with its copies: of messages that it sends, of its records, or of receives that
 // find nothing.
+/** @param {Item} actor @param {number} horizon @param {File[]} files @returns {number} */
 function rowsOf(actor, horizon, files) {
-  const copies = numberIn(actor, 'copies', 1), left = Math.max(0, horizon - numberIn(actor, 'start_ms', 0)), kind = said(actor, 'kind');
+  const copies = numberIn(actor, 'copies', 1), kind = said(actor, 'kind');
+  const left = Math.max(0, horizon - numberIn(actor, 'start_ms', 0));
   if (kind === 'producer') {
     const gap = (numberIn(actor, 'gap_min_ms', 1) + numberIn(actor, 'gap_max_ms', 1)) / 2;
     return ROWS_OF_MESSAGE * Math.min(numberIn(actor, 'count', 1), left / Math.max(1, gap) + 1);
@@ -27,17 +40,31 @@ function rowsOf(actor, horizon, files) {
 }
 
 // About how many rows a run has. Messages that go round or fail for ever are not foreseen.
-function rowsAbout(text, files) {
+/** @param {string} text @param {File[]} files */
+export function rowsAbout(text, files) {
   const scenario = new Scenario(text), horizon = numberIn(scenario.top, 'horizon', 0);
   return Math.round(scenario.items('actor').reduce((rows, actor) => rows + rowsOf(actor, horizon, files), 0));
 }
 
-class Side {
+export class Side {
   // `changed` is called as the side begins and ends to run.
+  /** @param {string} name @param {(side: Side) => void} changed */
   constructor(name, changed) {
-    Object.assign(this, { name, changed, text: '', files: [], ran: null, result: null, error: '', began: null });
+    this.name = name;
+    this.changed = changed;
+    this.text = this.error = '';
+    /** @type {File[]} */
+    this.files = [];
+    // the text that has run, and what came out of it
+    /** @type {string | null} */
+    this.ran = null;
+    /** @type {Outcome | null} */
+    this.result = null;
+    /** @type {number | null} */
+    this.began = null;
     this.asker = new Asker(why => this.stop(why));
     // what came out of other seeds, if they were run
+    /** @type {import('./seeds.js').Spread | null} */
     this.spread = null;
   }
 
@@ -57,6 +84,7 @@ class Side {
       : `This run may give about ${grouped(rows)} rows, so it does not begin by itself: press Run.`;
   }
 
+  /** @param {import('./worker.js').Question} question */
   ask(question) {
     return this.asker.ask(question);
   }
@@ -66,7 +94,7 @@ class Side {
     const { text, files } = this, began = this.began = performance.now();
     this.changed(this);
     const answer = await this.ask({ text, files })
-      .catch(error => ({ error: `This browser cannot run it: ${error.message}` }));
+      .catch(error => /** @type {Outcome} */ ({ error: `This browser cannot run it: ${error.message}` }));
     if (this.began !== began) return;
     this.began = this.spread = null;
     this.ran = text;
@@ -76,20 +104,37 @@ class Side {
   }
 
   // Ends the worker with what it does.
+  /** @param {string} why */
   stop(why) {
     this.asker.end();
     if (!this.isRunning && !why) return;
     this.began = null;
-    [this.result, this.error, this.ran] = [null, why, this.text];
+    this.result = null;
+    this.error = why;
+    this.ran = this.text;
     this.changed(this);
+  }
+
+  // What came out; it is asked for only of a side that is done.
+  get outcome() {
+    return /** @type {Outcome} */ (this.result);
   }
 
   get isDone() {
     return this.result?.code === 0;
   }
 
+  // The numbers of the run at moments; none before it has run.
+  /** @param {import('./moments.js').MomentQuestion} question */
+  momentsOf(question) {
+    return this.isDone && this.asker.worker ? this.asker.post({ moments: question }).then(answer => answer.moments)
+      : null;
+  }
+
   // What the run tells of some queues over time.
+  /** @param {import('./overtime.js').Over & { names: string[] }} question */
   over(question) {
-    return this.isDone && this.asker.worker ? this.asker.post({ over: question }).then(answer => answer.queues ?? []) : [];
+    return this.isDone && this.asker.worker ? this.asker.post({ over: question }).then(answer => answer.queues ?? [])
+      : [];
   }
 }

@@ -21,7 +21,7 @@ START_SECONDS, ANSWER_SECONDS = 600, 1800
 # The key under which an element comes in an answer of a driver.
 ELEMENT = "element-6066-11e4-a52e-4f735466cecf"
 KEYS = {"Tab": "\ue004", "Enter": "\ue007", "Escape": "\ue00c", "ArrowRight": "\ue014", "ArrowDown": "\ue015",
-        "End": "\ue010", "Control": "\ue009"}
+        "End": "\ue010", "Home": "\ue011", "Control": "\ue009"}
 # What Firefox does on its own at its start is left out, so that it asks for nothing of the network.
 PREFERENCES = {"marionette.port": 0, "network.dns.disabled": True, "app.update.auto": False,
                "browser.shell.checkDefaultBrowser": False, "datareporting.policy.dataSubmissionEnabled": False,
@@ -102,6 +102,13 @@ class Firefox:
         self.ask("WebDriver:ExecuteScript", {"script": script, "args": [0 if is_dark else 1]})
         self.ask("Marionette:SetContext", {"value": "content"})
 
+    def be_still(self, is_still: bool) -> None:
+        """Prefers less motion, or not."""
+        script = "Services.prefs.setIntPref('ui.prefersReducedMotion', arguments[0])"
+        self.ask("Marionette:SetContext", {"value": "chrome"})
+        self.ask("WebDriver:ExecuteScript", {"script": script, "args": [int(is_still)]})
+        self.ask("Marionette:SetContext", {"value": "content"})
+
     def asked_for(self) -> list[str]:
         """What the page asked for, as far as the page itself can tell."""
         return list(self.run("return performance.getEntriesByType('resource').map(it => it.name)"))
@@ -126,6 +133,7 @@ class Chromium:
         options.set_capability("goog:loggingPrefs", {"performance": "ALL", "browser": "ALL"})
         service = library("selenium.webdriver.chrome.service", "python3-selenium").Service("/usr/bin/chromedriver")
         self.driver = webdriver.Chrome(options=options, service=service)
+        self.preferences: dict[str, str] = {}
         self.driver.set_script_timeout(ANSWER_SECONDS)
         self.driver.set_page_load_timeout(ANSWER_SECONDS)
 
@@ -153,7 +161,15 @@ class Chromium:
 
     def be_dark(self, is_dark: bool) -> None:
         """Prefers dark colours, or light ones."""
-        features = [{"name": "prefers-color-scheme", "value": "dark" if is_dark else "light"}]
+        self.prefer("prefers-color-scheme", "dark" if is_dark else "light")
+
+    def be_still(self, is_still: bool) -> None:
+        """Prefers less motion, or not."""
+        self.prefer("prefers-reduced-motion", "reduce" if is_still else "no-preference")
+
+    def prefer(self, name: str, value: str) -> None:
+        self.preferences[name] = value
+        features = [{"name": name, "value": value} for name, value in self.preferences.items()]
         self.driver.execute_cdp_cmd("Emulation.setEmulatedMedia", {"features": features})
 
     def asked_for(self) -> list[str]:

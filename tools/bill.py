@@ -4,6 +4,7 @@ from __future__ import annotations
 
 import json
 import os
+import re
 import time
 from collections.abc import Mapping, Sequence
 from typing import Any
@@ -15,6 +16,8 @@ from rehearse_tools.console import read_bytes, read_text
 from rehearse_tools.programs import TOP
 
 CRATES = os.path.join(TOP, "crates.txt")
+# The libraries in the page, with their versions.
+LICENCES, IN_PAGE = os.path.join(TOP, "page", "licences.txt"), re.compile(r"\b([a-z]+) ([0-9]+[.][0-9]+[.][0-9]+)")
 # What the tools in Python ask for, by Debian's names of the packages.
 FOR_TOOLS = ("python3", "python3-yaml", "python3-matplotlib", "python3-plotly", "python3-scipy")
 
@@ -53,6 +56,8 @@ def components(program: bytes, version: str) -> list[dict[str, Any]]:
     found += [component("library", name, group="rattle-kit", version=kit) for name in libraries_of(crates)]
     if os.path.exists(release.PAGE):
         found.append(component("file", "dist/playground.html", version, release.sum_of(read_bytes(release.PAGE))))
+        found += [component("library", name, its_version, group="dist/playground.html")
+                  for name, its_version in IN_PAGE.findall(read_text(LICENCES))]
     needs = debian.library_version(program)
     found += [component("library", "libc6", scope="required", version=f">= {needs}")] if needs else []
     return found + [component("library", name, scope="optional") for name in FOR_TOOLS]

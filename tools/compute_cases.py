@@ -3,11 +3,11 @@
 
     tools/compute_cases.py OUT.antt [--only WORD] [--but NAME] [--most ROWS] FOLDER..
 
-A case is a scenario NAME.toml with what the program prints for it: NAME.out and NAME.err (a missing
-one is empty) and its status in NAME.status. For a case that runs, the lemma says that the scenario
-read from the very bytes of NAME.toml has a one-list run whose log, finals and report are the CSV
-records of NAME.out, after which nothing is due by the horizon and every accepted message is in
-exactly one place. For a case that is refused, it says that the line of the first fault is NAME.err.
+A case is a text NAME.toml with what the program prints for it: NAME.out, or NAME.err if it is refused.
+For a case that runs, the lemma says that the scenario read from the very bytes of NAME.toml has a
+one-list run whose log, finals and report are the CSV records of NAME.out, after which nothing is due
+by the horizon and every accepted message is in exactly one place. For a case that is refused, it
+says that the line of the first fault is NAME.err.
 In a folder whose name ends with -3 texts of version 3 are read, too.
 
 Write OUT.antt into a crate that uses the definitions (crates/sqs_examples/proofs, with a line in
@@ -119,7 +119,7 @@ def lemma(path: str, number: int, most: int) -> str | None:
     base = path[:-len(".toml")]
     name = "case_%s_%s" % (number, os.path.basename(base).replace("-", "_"))
     text, shown = stored(path, may_lack=False), shown_in(os.path.dirname(path))
-    if stored(base + ".status").strip() == b"0":
+    if not os.path.exists(base + ".err"):
         try:
             rows, claim = ran(name, shown, text, stored(base + ".out", may_lack=False))
         except (ValueError, KeyError, TypeError, AttributeError, StopIteration):

@@ -8,20 +8,26 @@ import html
 import json
 import os
 import re
+import shutil
+import subprocess
+import tempfile
 from collections.abc import Iterable
 from typing import Any
 
 import release
-from rehearse_tools.console import Fault, read_text
-from rehearse_tools.keys import ACTORS, VERSIONS, Key, keys_of
+from rehearse_tools import explain, logs, scripts, summaries
+from rehearse_tools.console import Fault, read_bytes, read_text, write_bytes
+from rehearse_tools.keys import ACTORS, ITEMS, VERSIONS, Key, keys_of
 from rehearse_tools.programs import TOP
 from rehearse_tools.scenarios import parsed
 
 PARTS = os.path.join(TOP, "page")
-# The scripts of the worker and of the page, in the order in which they need one another.
-WORKER = ("units", "log", "queue", "run", "overtime", "worker")
-PAGE = ("units", "dom", "kept", "scenario", "faults", "asker", "side", "link", "editor", "numbers", "figure", "pictures",
-        "tables", "answer", "seeds", "require", "curve", "log_view", "app")
+# The modules with which the page and its worker begin.
+PAGE, WORKER = "app.js", "worker.js"
+# What puts a module and those that it imports into one script, for browsers of mid-2023 and later, and where Debian's
+# packages have libraries. Another version may give other bytes.
+BUNDLER, BUNDLER_VERSION, LIBRARIES = "esbuild", "0.17.0", "/usr/share/nodejs"
+BUNDLED = ("--bundle", "--minify", "--format=iife", "--target=es2022", "--log-level=warning")
 FIRST = "retries/three_tries.toml"
 TO_BEGIN = "What is a scenario?"
 # What those that list or show the page say of it.
@@ -106,7 +112,7 @@ def abouts() -> dict[str, dict[str, str]]:
 
 
 def key_of(key: Key, about: str) -> dict[str, Any]:
-    return {**{name: value for name, value in key._asdict().items()}, "about": about}
+    return {**key._asdict(), "about": about, "items": ITEMS.get(key.name)}
 
 
 def keys() -> dict[str, list[dict[str, Any]]]:
@@ -120,8 +126,55 @@ def keys() -> dict[str, list[dict[str, Any]]]:
     return found
 
 
-def scripts(names: tuple[str, ...]) -> str:
-    return "".join(read_text(os.path.join(PARTS, f"{name}.js")) for name in names)
+def rules() -> dict[str, dict[str, str]]:
+    """What tools/explain says of names, and of lists and their items by their kinds."""
+    return {"names": explain.NAMES, "lists": explain.LISTS, "forms": explain.ITEM_FORMS, "rules": explain.ITEM_RULES}
+
+
+def counted() -> dict[str, Any]:
+    """What tools/summary counts and prints: the names of refusals, the actions of SQS by the names of calls, what is
+    counted by which rows, and the lines of a queue, each with the name of what writes its number."""
+    return {"REFUSALS": logs.REFUSALS, "ACTIONS": summaries.ACTIONS, "BACKLOG": summaries.BACKLOG,
+            "BY_KIND": {key: sorted(map(",".join, rows)) for key, rows in summaries.BY_KIND.items()},
+            "SHARES": summaries.SHARES, "LINES": [{"key": line.key, "label": line.label, "always": line.always,
+                                                   "written": line.written.__name__} for line in summaries.LINES],
+            "ACTORS": list(ACTORS), "SCRIPT_HEADER": ",".join(scripts.HEADER)}
+
+
+def write_modules(folder: str) -> None:
+    """Writes the modules of the page into a folder, and facts.js, which has what the repository tells the page."""
+    for name in sorted(os.listdir(PARTS)):
+        if name.endswith(".js") or name == "package.json":
+            write_bytes(os.path.join(folder, name), read_bytes(os.path.join(PARTS, name)))
+    facts = {"KEYS": keys(), "RULES": rules(), "EXAMPLES": examples(), "FIRST": FIRST, **counted()}
+    text = "".join(f"export const {name} = {as_json(value)};\n" for name, value in facts.items())
+    write_bytes(os.path.join(folder, "facts.js"), text.encode())
+
+
+def missing() -> str:
+    """What is missing to put the modules together; '' if nothing is."""
+    if shutil.which(BUNDLER) is None:
+        return f"{BUNDLER} is missing: Debian's package {BUNDLER} has it"
+    return "" if os.path.exists(os.path.join(LIBRARIES, "dagre")) else "dagre is missing: Debian's package node-dagre-layout has it"
+
+
+def bundler_fault() -> str:
+    """Why the page of dist/ cannot be made again here, to the byte; '' if it can."""
+    if missing():
+        return missing()
+    version = release.printed_by([BUNDLER, "--version"]).decode().strip()
+    return "" if version == BUNDLER_VERSION else f"{BUNDLER} is {version} and not {BUNDLER_VERSION}, so that its bytes differ"
+
+
+def bundled(folder: str, name: str) -> str:
+    """A module in a folder with those that it imports, as one script."""
+    if missing():
+        raise Fault(missing())
+    ran = subprocess.run([BUNDLER, name, *BUNDLED], cwd=folder, stdin=subprocess.DEVNULL, capture_output=True, text=True,
+                         env={**os.environ, "NODE_PATH": LIBRARIES})
+    if ran.returncode:
+        raise Fault(f"{BUNDLER} cannot put page/{name} together: {ran.stderr.strip()}")
+    return ran.stdout
 
 
 def as_json(value: Any) -> str:
@@ -151,14 +204,16 @@ def about_site(address: str) -> str:
 
 def page_of(module: bytes, address: str | None = None) -> bytes:
     """The page with a module in it; that of a site with its address, which ends in a slash."""
-    data = f"const KEYS={as_json(keys())};\nconst DATA={as_json({'examples': examples(), 'first': FIRST})};\n"
-    script = checked(f"\n(() => {{\n'use strict';\n{data}{scripts(PAGE)}}})();\n", "page/")
+    with tempfile.TemporaryDirectory() as folder:
+        write_modules(folder)
+        script, worker = (checked(f"\n{bundled(folder, name)}", f"page/{name}") for name in (PAGE, WORKER))
     style = checked(f"\n{read_text(os.path.join(PARTS, 'page.css'))}", "page/page.css")
     version = read_text(os.path.join(TOP, "tools", "VERSION")).strip()
-    parts = {"STYLE": style, "SCRIPT": script, "WORKER": checked(f"\n'use strict';\n{scripts(WORKER)}", "page/"),
+    parts = {"STYLE": style, "SCRIPT": script, "WORKER": worker,
              "POLICY": POLICY.format(script=sum_of(script), style=sum_of(style)),
              "MODULE": base64.b64encode(release.packed(module)).decode(),
              "VERSIONS": f"version {version}, module {release.sum_of(module)}", "ABOUT": html.escape(ABOUT),
+             "LICENCES": html.escape(read_text(os.path.join(PARTS, "licences.txt"))),
              "SITE": about_site(address) if address else ""}
     page = MARK.sub(lambda mark: parts[mark[1]], read_text(os.path.join(PARTS, "page.html")))
     return page.encode()

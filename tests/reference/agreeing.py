@@ -22,16 +22,16 @@ class Outcome(NamedTuple):
 
 
 def referred(source: bytes, greatest_version: int = 2, most_handlings: float = math.inf,
-             stretch: tuple[int, int] | None = None) -> Outcome:
-    """What the reference answers to a run of a text without script files, with figures over a stretch if there is one.
-    TooLong, if it has more handlings."""
+             wanted: Sequence[int] | None = None) -> Outcome:
+    """What the reference answers to a run of a text without script files, with figures if any are wanted: from a moment to
+    another, how many messages are no backlog, and how long a window is. TooLong, if it has more handlings."""
     try:
         scenario = read(source, {}, greatest_version)
     except Fault as fault:
         return Outcome(1, b"", f"{fault.line()}\n".encode())
     world = World(scenario)
     rows = world.run(most_handlings)
-    figures = figures_text(scenario, rows, *stretch) if stretch else ""
+    figures = figures_text(scenario, rows, *wanted) if wanted else ""
     text = log_text(rows) + finals_text(world.sites) + report_text(world.sites, rows) + figures
     return Outcome(0, text.encode(), b"")
 

@@ -2,7 +2,7 @@
 from __future__ import annotations
 
 from collections import Counter
-from collections.abc import Iterable, Iterator, Sequence
+from collections.abc import Container, Iterable, Iterator, Sequence
 from typing import TYPE_CHECKING, NamedTuple, Optional
 
 from log import COMES, LEAVES, line_of
@@ -16,13 +16,21 @@ COUNTED = {"send new": "sent", "send repeat": "sent_again", "arrive repeat": "fo
            "receive wait": "waits", "receive empty": "empty_receives", "delete deleted": "deleted",
            "delete kept": "deletes_by_older_receipt", "delete gone": "deletes_of_gone", "change ok": "changes",
            "fail ok": "failed_services", "forward out": "forwarded", "redrive out": "dead_lettered",
-           "move out": "moved_away", "expire expired": "lost_by_expiry"}
+           "move out": "moved_away", "expire expired": "lost_by_expiry", "start ok": "starts", "cancel ok": "cancels"}
 # Of a call that is refused.
 REFUSED = {"send": "refused_sends", "receive": "refused_receives", "delete": "refused_deletes",
-           "change": "refused_changes"}
+           "change": "refused_changes", "start": "refused_starts", "cancel": "refused_cancels"}
 NAMES = ["sent", "sent_again", "came_by_forward", "came_by_redrive", "came_by_move", "forwarded_again", "receives",
          "waits", "empty_receives", "deleted", "deletes_by_older_receipt", "deletes_of_gone", "changes",
-         "failed_services", "forwarded", "dead_lettered", "moved_away", "lost_by_expiry", *REFUSED.values()]
+         "failed_services", "forwarded", "dead_lettered", "moved_away", "lost_by_expiry", *list(REFUSED.values())[:4],
+         "starts", "cancels", "refused_starts", "refused_cancels"]
+# The actions of SQS by the calls of rows.
+ACTIONS = {"send": "SendMessage", "receive": "ReceiveMessage", "delete": "DeleteMessage",
+           "change": "ChangeMessageVisibility", "start": "StartMessageMoveTask", "cancel": "CancelMessageMoveTask"}
+# How long a window of time is, in milliseconds.
+WINDOW = 300_000
+# More messages than these that are there and not in flight are a backlog, unless another number is given.
+BACKLOG = 10
 HEADER = ["figure", "of", "name", "value"]
 
 
@@ -56,7 +64,7 @@ class Stretch(NamedTuple):
         return max(0, min(end, self.end) - max(start, self.first))
 
 
-def kind_of(row: Fields, queues: Sequence[str]) -> str | None:
+def kind_of(row: Fields, queues: Container[str]) -> str | None:
     """The name of the count in which a row is, if it is in one."""
     if row.said() == "arrive new":
         if row.detail[1:] == row.message[1:]:
@@ -65,9 +73,39 @@ def kind_of(row: Fields, queues: Sequence[str]) -> str | None:
     return COUNTED.get(row.said()) or (REFUSED.get(row.call) if row.answer[0].isupper() else None)
 
 
-def counts(rows: Iterable[Fields], queues: Sequence[str]) -> Iterator[tuple[str, int]]:
+def counts(rows: Iterable[Fields], queues: Container[str]) -> Iterator[tuple[str, int]]:
     kinds = [kind_of(row, queues) for row in rows]
     yield from ((name, kinds.count(name)) for name in NAMES)
+
+
+def asks(rows: Iterable[Fields]) -> Iterator[bool]:
+    """Of each row whether a request is made with it: a poll that waits is answered, and a receive gives some messages,
+    without another one. A forward is sent as it arrives."""
+    polling: set[str] = set()
+    answered: dict[str, str] = {}
+    for row in rows:
+        if row.call == "arrive":
+            yield row.answer == "repeat" or row.detail[1:] == row.message[1:]
+        elif row.call != "receive":
+            yield row.call in ACTIONS
+        elif row.agent in polling or answered.get(row.agent) == row.at:
+            polling.discard(row.agent)
+            answered[row.agent] = row.at
+            yield False
+        else:
+            if row.answer == "wait":
+                polling.add(row.agent)
+            elif row.answer == "ok":
+                answered[row.agent] = row.at
+            yield True
+
+
+def requests(rows: Sequence[Fields], stretch: Stretch) -> Iterator[tuple[str, int]]:
+    asked = [row for row, is_asked in zip(rows, asks(rows)) if is_asked and stretch.has(row)]
+    made = Counter(ACTIONS.get(row.call, ACTIONS["send"]) for row in asked)
+    yield from ((action, made[action]) for action in ACTIONS.values())
+    yield "requests", len(asked)
+    yield "refused_requests", sum(row.answer[0].isupper() for row in asked)
 
 
 def depths(rows: Iterable[Fields]) -> Iterator[int]:
@@ -99,6 +137,63 @@ def peak(name: str, numbers: Iterable[int], rows: Sequence[Fields], stretch: Str
     yield f"{name}_greatest_at_ms", greatest[1]
 
 
+def backlogs(waiting: Iterable[int], most: int, rows: Iterable[Fields], stretch: Stretch
+             ) -> Iterator[tuple[str, Optional[int]]]:
+    """The last end of a backlog in a stretch, unless there is one in the end, and since when there is that one."""
+    since: Optional[int] = None
+    gone: Optional[int] = None
+    for number, row in zip(waiting, rows):
+        if number > most and since is None:
+            since = int(row.at)
+        elif number <= most and since is not None:
+            since, gone = None, int(row.at) if stretch.has(row) else gone
+    yield "backlog_gone_at_ms", gone if since is None else None
+    yield "backlog_since_ms", since
+
+
+def left(rows: Sequence[Fields], quota: int, most: int, stretch: Stretch) -> Iterator[tuple[str, Optional[int]]]:
+    """What is left of a queue's messages, and how long the quota was reached."""
+    there, flying = [*depths(rows)], [*flights(rows)]
+    ends = [int(row.at) for row in rows[1:]] + [stretch.end]
+    yield "left", there[-1] if rows else 0
+    yield "left_in_flight", flying[-1] if rows else 0
+    yield "quota_ms", sum(stretch.part(int(row.at), end) for row, end, number in zip(rows, ends, flying)
+                          if number >= quota)
+    yield from backlogs((all_of - some for all_of, some in zip(there, flying)), most, rows, stretch)
+
+
+def oldest(rows: Iterable[Fields], stretch: Stretch) -> Iterator[tuple[str, int]]:
+    """The greatest age of the oldest message as one left a queue, or at the last moment, and when."""
+    there: dict[str, int] = {}
+    found = [(0, stretch.first)]
+
+    def look(at: int) -> None:
+        if there:
+            found.append((at - next(iter(there.values())), at))
+
+    for row in rows:
+        if row.said() in LEAVES:
+            if stretch.has(row):
+                look(int(row.at))
+            there.pop(row.message, None)
+        elif row.said() in COMES:
+            there[row.message] = int(row.at)
+    look(stretch.end - 1)
+    age, at = max(found, key=lambda it: it[0])
+    yield "oldest_age_greatest_ms", age
+    yield "oldest_age_greatest_at_ms", at
+
+
+def services(rows: Sequence[Fields], stretch: Stretch) -> Iterator[tuple[str, Optional[int]]]:
+    """The services of an actor that ended, its receives that gave messages, and how long it was busy."""
+    inside = [row for row in rows if stretch.has(row)]
+    whole, time = stretch.end - stretch.first, busy(rows, stretch)
+    yield "services", sum(row.call == "delete" or row.said() == "fail ok" for row in inside)
+    yield "batches", len({row.at for row in inside if row.said() == "receive ok"})
+    yield "busy_ms", time
+    yield "busy_permille", time * 1000 // whole if whole > 0 else None
+
+
 def busy(rows: Sequence[Fields], stretch: Stretch) -> int:
     """How many milliseconds of a stretch an actor held messages that it had not settled."""
     held, receiving, total = 0, False, 0
@@ -128,7 +223,7 @@ def tries(rows: Sequence[Fields], stretch: Stretch) -> Iterator[tuple[str, int]]
     yield "tries_greatest", max(found, default=0)
 
 
-def of_moved(rows: Iterable[Fields], queues: Sequence[str]) -> Iterator[bool]:
+def of_moved(rows: Iterable[Fields], queues: Container[str]) -> Iterator[bool]:
     """Of each row of a queue whether its message came there by a move."""
     came: set[str] = set()
     for row in rows:
@@ -137,36 +232,50 @@ def of_moved(rows: Iterable[Fields], queues: Sequence[str]) -> Iterator[bool]:
         yield row.message in came
 
 
-def ages(name: str, rows: Iterable[Fields]) -> Iterator[tuple[str, Optional[int]]]:
-    found = sorted(int(row.detail) for row in rows if row.said() == "delete deleted")
+def rank(percent: int, found: Iterable[int]) -> Optional[int]:
+    ascending = sorted(found)
+    return ascending[-(-percent * len(ascending) // 100) - 1] if ascending else None
+
+
+def ages(name: str, rows: Sequence[Fields], first: int, length: int) -> Iterator[tuple[str, Optional[int]]]:
+    """The ages of rows that delete, and the worst window of so many milliseconds from a first moment on."""
+    found = [int(row.detail) for row in rows]
     yield f"{name}_sum_ms", sum(found)
     for end, percent in ("p50", 50), ("p95", 95), ("p99", 99), ("greatest", 100):
-        yield f"{name}_{end}_ms", found[-(-percent * len(found) // 100) - 1] if found else None
+        yield f"{name}_{end}_ms", rank(percent, found)
+    starts = [first + (int(row.at) - first) // length * length for row in rows]
+    worst = {start: rank(95, (age for age, of in zip(found, starts) if of == start)) or 0 for start in starts}
+    at, age = max(worst.items(), key=lambda window: window[1], default=(None, None))
+    yield f"{name}_window_p95_ms", age
+    yield f"{name}_window_p95_at_ms", at
 
 
-def ages_apart(rows: Sequence[Fields], queues: Sequence[str], stretch: Stretch
+def ages_apart(rows: Sequence[Fields], queues: Container[str], stretch: Stretch, length: int
                ) -> Iterator[tuple[str, Optional[int]]]:
     """The ages of all messages that a stretch deleted, of those that came by no move, and of the others."""
-    moved = [(is_moved, row) for is_moved, row in zip(of_moved(rows, queues), rows) if stretch.has(row)]
-    yield from ages("age", (row for _, row in moved))
-    yield from ages("new_age", (row for is_moved, row in moved if not is_moved))
-    yield from ages("moved_age", (row for is_moved, row in moved if is_moved))
+    moved = [(is_moved, row) for is_moved, row in zip(of_moved(rows, queues), rows)
+             if stretch.has(row) and row.said() == "delete deleted"]
+    yield from ages("age", [row for _, row in moved], stretch.first, length)
+    yield from ages("new_age", [row for is_moved, row in moved if not is_moved], stretch.first, length)
+    yield from ages("moved_age", [row for is_moved, row in moved if is_moved], stretch.first, length)
 
 
-def figures_text(scenario: "Scenario", made: Iterable["Row"], first: int, end: int) -> str:
+def figures_text(scenario: "Scenario", made: Iterable["Row"], first: int, end: int, most: int = BACKLOG,
+                 length: int = WINDOW) -> str:
     """The figures of all agents, over the part of a stretch that lies in the run."""
     stretch = Stretch(first, min(end, scenario.horizon + 1))
-    queues = [queue.name for queue in scenario.queues]
-    rows = [Fields(*row.fields) for row in made]
+    queues = {queue.name: queue.in_flight for queue in scenario.queues}
+    rows = [row for row in (Fields(*row.fields) for row in made) if int(row.at) < stretch.end]
     lines: list[Sequence[object]] = [HEADER]
     for name in scenario.names():
         own = [row for row in rows if (row.queue if name in queues else row.agent) == name]
         inside = [row for row in own if stretch.has(row)]
-        figures: list[tuple[str, Optional[int]]] = [*counts(inside, queues)]
+        figures: list[tuple[str, Optional[int]]] = [*counts(inside, queues), *requests(own, stretch)]
         if name in queues:
             figures += [*peak("depth", depths(own), own, stretch), *peak("in_flight", flights(own), own, stretch),
-                        *tries(own, stretch), *ages_apart(own, queues, stretch)]
+                        *oldest(own, stretch), *left(own, queues[name], most, stretch), *tries(own, stretch),
+                        *ages_apart(own, queues, stretch, length)]
         else:
-            figures.append(("busy_ms", busy(own, stretch)))
+            figures += services(own, stretch)
         lines += [["figure", name, figure, "" if value is None else value] for figure, value in figures]
     return "".join(map(line_of, lines))

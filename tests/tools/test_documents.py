@@ -48,7 +48,9 @@ class Readmes(unittest.TestCase):
     @classmethod
     def setUpClass(cls) -> None:
         cls.words = {crate.name: words_of(crate) for crate in CRATES}
-        edits = {path.stem for folder in ("tests/wrong-bodies", "crates") for path in (TOP / folder).rglob("*.edit")}
+        edits = {path.stem for path in (TOP / "crates").glob("*/must-fail/*.edit")}
+        for path in (TOP / "tests/wrong-bodies").rglob("*.edits"):
+            edits.update(re.findall("^edit: (.*)$", path.read_text(encoding="utf-8"), re.MULTILINE))
         cls.crates = crate_list.read(str(TOP / "crates.txt"))
         cls.known = {*cls.words, *edits, *PLACES, "rt"}
 

@@ -135,8 +135,7 @@ class Bench(ToolCase):
 class Cases(ToolCase):
     def test_a_case_that_runs_and_one_that_is_refused(self):
         os.mkdir(self.path("cases"))
-        for name, text in (("a.toml", SCENARIO), ("a.out", OUTPUT), ("a.status", "0\n"), ("b.toml", "x"),
-                           ("b.err", "refused 10 NotToml\n"), ("b.status", "1\n")):
+        for name, text in (("a.toml", SCENARIO), ("a.out", OUTPUT), ("b.toml", "x"), ("b.err", "refused 10 NotToml\n")):
             self.write(f"cases/{name}", text)
         self.assertEqual(self.run_tool("compute_cases.py", "out.antt", "cases"), (0, "2 lemmas in out.antt\n", ""))
         with open(self.path("out.antt"), encoding="utf-8") as file:
@@ -149,7 +148,6 @@ class Cases(ToolCase):
     def test_faults(self):
         os.mkdir(self.path("cases"))
         self.write("cases/a.toml", SCENARIO)
-        self.write("cases/a.status", "0")
         for data, line in ((None, "cannot read cases/a.out: No such file or directory"),
                            (b"", "cases/a.out is not the output of cases/a.toml"),
                            (b"\xff", "cases/a.out is not the output of cases/a.toml")):

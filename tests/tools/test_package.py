@@ -121,6 +121,8 @@ class Package(PackageCase):
             bill = json.load(file)
         whole, parts = bill["metadata"]["component"], {part["name"]: part for part in bill["components"]}
         self.assertEqual((bill["bomFormat"], whole["name"]), ("CycloneDX", "sqs_rehearse"))
+        self.assertEqual([name for name, part in parts.items() if part.get("group") == "dist/playground.html"],
+                         ["dagre", "graphlib", "lodash"])
         for part, path in ((whole, ECHO), (parts["dist/playground.html"], f"{ROOT}/dist/playground.html")):
             self.assertEqual(part["hashes"], [
                 {"alg": "SHA-256", "content": hashlib.sha256(pathlib.Path(path).read_bytes()).hexdigest()}])
@@ -242,7 +244,8 @@ class Package(PackageCase):
         self.assertEqual(completed(f"{root}/usr/share/bash-completion/completions/sqs_rehearse", self.folder, [
             ["sqs_rehearse", "co"], ["sqs_rehearse", "su"], ["sqs_rehearse", "run", "--w"],
             ["sqs_rehearse", "run", "--scripts", "ro"], ["sqs_rehearse", "compare", "a.toml", "--"]]),
-            [["compare"], ["summary"], ["--window", "--workers"], ["root"], ["--help", "--preview", "--scripts"]])
+            [["compare"], ["summary"], ["--window", "--window-figures", "--workers"], ["root"],
+             ["--help", "--preview", "--scripts"]])
 
     @needs_program
     def test_first_scenario(self):

@@ -500,11 +500,11 @@ class ByNode(WrapperCase):
         self.assertGreater(len(cases), 200)
         for path in cases[::10]:
             with self.subTest(case=path.name):
-                stored = {kind: path.with_suffix(f".{kind}") for kind in ("out", "err", "status")}
-                out, err, status = (it.read_bytes() if it.exists() else b"" for it in stored.values())
+                stored = [path.with_suffix(f".{kind}") for kind in ("out", "err")]
+                out, err = (it.read_bytes() if it.exists() else b"" for it in stored)
                 words = ("--preview",) if path.parent.name.endswith("-3") else ()
                 self.assertEqual(self.run_there("run", *words, stdin=path.read_bytes()),
-                                 (int(status or b"0"), out, NODE_NOTE + err.decode()))
+                                 (1 if err else 0, out, NODE_NOTE + err.decode()))
                 if words and b"\nversion = 3\n" in b"\n" + path.read_bytes():
                     self.assertEqual(self.run_there("run", stdin=path.read_bytes()),
                                      (1, b"", NODE_NOTE + "refused 14 OutOfRange at version\n"))

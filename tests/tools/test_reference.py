@@ -130,7 +130,8 @@ def with_end(path, end):
 
 
 def stored_outcome(path):
-    return Outcome(int(with_end(path, ".status") or 0), with_end(path, ".out"), with_end(path, ".err"))
+    error = with_end(path, ".err")
+    return Outcome(1 if error else 0, with_end(path, ".out"), error)
 
 
 def fault_line(text):

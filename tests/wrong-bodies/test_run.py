@@ -11,6 +11,8 @@ from tool import ROOT, ToolCase, module_at  # noqa: E402 (the folder of the test
 
 RUN = os.path.join(ROOT, "tests", "wrong-bodies", "run")
 run = module_at(RUN, "wrong_bodies")
+# The wrong bodies of the crate.
+EDITS = "tests/wrong-bodies/tiny.edits"
 
 CODE = """//! Choices of one of several numbers.
 #![tactic(auto)]
@@ -102,8 +104,8 @@ class WrongBodies(ToolCase):
         self.environment = {**os.environ, "PATH": self.path("bin") + os.pathsep + os.environ["PATH"]}
 
     def write_edits(self, edits):
-        for name, (file, old, new) in edits.items():
-            self.write(f"tests/wrong-bodies/tiny/{name}.edit", f"file: {file}\nold: {old}\nnew: {new}\n")
+        self.write(EDITS, "\n".join(f"edit: {name}\nfile: {file}\nold: {old}\nnew: {new}\n"
+                                    for name, (file, old, new) in edits.items()))
 
     def try_all(self, *words):
         command = [sys.executable, self.path("tests/wrong-bodies/run"), *words]
@@ -114,13 +116,11 @@ class WrongBodies(ToolCase):
     def test_tells_what_is_not_refused(self):
         self.write_edits({**WRONG, **NOT_TRIED})
         status, out, err = self.try_all()
-        told = {it.split(": ")[0]: it.split(": ", 1)[1] for it in out.splitlines() if it.startswith("tests/")}
-        folder = "tests/wrong-bodies/tiny"
-        self.assertEqual(sorted(told), [f"{folder}/{it}.edit" for it in ("harmless", "of_no_text", "unreadable")], out)
-        self.assertEqual(told[f"{folder}/harmless.edit"], "NOT REFUSED")
-        self.assertEqual(told[f"{folder}/of_no_text.edit"],
-                         "BAD EDIT: an 'old:' text stands in src/lib.rt 0 times, and not once")
-        self.assertIn("NO VERDICT: ", told[f"{folder}/unreadable.edit"])
+        told = dict(it.split(": ", 2)[1:] for it in out.splitlines() if it.startswith(f"{EDITS}: "))
+        self.assertEqual(sorted(told), ["harmless", "of_no_text", "unreadable"], out)
+        self.assertEqual(told["harmless"], "NOT REFUSED")
+        self.assertEqual(told["of_no_text"], "BAD EDIT: an 'old:' text stands in src/lib.rt 0 times, and not once")
+        self.assertIn("NO VERDICT: ", told["unreadable"])
         self.assertIn("tiny: 4 of 7 wrong bodies refused", out)
         self.assertRegex(err, r"\A(tiny: \d of 7 have a verdict, after \d+ checks\n)+\Z")
         self.assertRegex(err, r"tiny: 7 of 7 have a verdict, after \d+ checks\n\Z")
@@ -130,7 +130,7 @@ class WrongBodies(ToolCase):
         self.write_edits({"pair_turned": WRONG["pair_turned"]})
         self.answer_for_prover("proved", 0)
         status, out, err = self.try_all("tiny")
-        self.assertIn("tests/wrong-bodies/tiny/pair_turned.edit: NOT REFUSED", out.splitlines())
+        self.assertIn(f"{EDITS}: pair_turned: NOT REFUSED", out.splitlines())
         self.assertIn("0 of 1 wrong bodies refused, in 1 checks and ", out.splitlines()[-1])
         self.assertEqual((status, len(out.splitlines()), err), (1, 3, "tiny: 1 of 1 have a verdict, after 1 checks\n"))
 
@@ -142,7 +142,7 @@ class WrongBodies(ToolCase):
         self.write("bin/rt", "#!/bin/sh\nif mkdir was 2> /dev/null; then exit 0; fi\n"
                              f"echo 'fn tiny::choose: {NOT_COVERED}'; echo logic=not-proved\nexit 1\n")
         status, out, _ = self.try_all()
-        self.assertIn(f"/tiny/second_beside_zero.edit: NO VERDICT: fn tiny::choose: {NOT_COVERED}\n", out)
+        self.assertIn(f"{EDITS}: second_beside_zero: NO VERDICT: fn tiny::choose: {NOT_COVERED}\n", out)
         self.assertIn("tiny: 0 of 1 wrong bodies refused", out)
         self.assertEqual(status, 1)
 
@@ -183,14 +183,19 @@ class WrongBodies(ToolCase):
         self.write_edits(WRONG)
         self.answer_for_prover("not proved", 1)
         status, out, faults = self.try_all("--list", "tiny")
-        self.assertEqual((status, faults, out.count(".edit:\n")), (0, "", len(WRONG)))
+        self.assertEqual((status, faults, out.count(f"{EDITS}: ")), (0, "", len(WRONG)))
         for name, (file, old, new) in WRONG.items():
-            path = f"tests/wrong-bodies/tiny/{name}.edit"
-            self.assertIn(f"{path}:\n  {file}\n  - {old.strip()}\n  + {new.strip()}\n", out)
-        self.write("tests/wrong-bodies/tiny/unreadable.edit", "new: nothing\n")
+            self.assertIn(f"{EDITS}: {name}:\n  {file}\n  - {old.strip()}\n  + {new.strip()}\n", out)
+        self.write(EDITS, "edit: unreadable\nnew: nothing\n")
         status, out, _ = self.try_all("--list", "tiny")
         self.assertEqual(status, 1)
-        self.assertIn("tests/wrong-bodies/tiny/unreadable.edit: BAD EDIT: ", out)
+        self.assertIn(f"{EDITS}: unreadable: BAD EDIT: ", out)
+
+    def test_a_file_without_names(self):
+        for text, fault in (("file: src/lib.rt\n", "does not begin with a line 'edit: NAME'"),
+                            ("edit: a\nold: x\n\nedit: a\nold: y\n", "has two edits a")):
+            self.write(EDITS, text)
+            self.assertEqual(self.try_all("tiny"), (2, "", f"run: {EDITS} {fault}\n"))
 
     def test_no_such_crate(self):
         self.assertEqual(self.try_all("tiny")[2], "run: there is no wrong body of a crate tiny\n")
@@ -199,17 +204,15 @@ class WrongBodies(ToolCase):
 class Stored(unittest.TestCase):
     def test_what_is_let_through_is_of_the_code_as_it_is(self):
         above = os.path.join(ROOT, "tests", "wrong-bodies", "let-through")
-        paths = [os.path.join(folder, name) for folder, _, names in os.walk(above) for name in names]
-        self.assertTrue(paths)
-        for path in paths:
-            name = os.path.relpath(path, above)
-            crate = os.path.join(ROOT, "crates", os.path.dirname(name))
-            self.assertIsNone(run.edit_at(path, name, crate).why, name)
+        edits = [edit for name in os.listdir(above)
+                 for edit in run.edits_in(os.path.join(above, name), ROOT, os.path.join(ROOT, "crates", name[:-6]))]
+        self.assertTrue(edits)
+        self.assertEqual("\n".join(f"{edit.place}: {edit.why}" for edit in edits if edit.verdict), "")
 
     def test_each_edit_is_of_the_code_as_it_is(self):
         edits = [edit for crate in run.uses(ROOT) for edit in run.edits_of(ROOT, crate)]
         self.assertTrue(edits)
-        self.assertEqual("\n".join(f"{edit.path}: {edit.why}" for edit in edits if edit.verdict), "")
+        self.assertEqual("\n".join(f"{edit.place}: {edit.why}" for edit in edits if edit.verdict), "")
 
 
 MORE = """//! More of pairs.

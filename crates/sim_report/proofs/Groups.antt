@@ -16,7 +16,8 @@ use Rattle.sim_report.specs.declared.left.Left.{Left}
 use Rattle.sim_report.specs.declared.queue.QueueCounts.{QueueCounts}
 use Rattle.sim_report.specs.Left.{left_of, left_with, lefts}
 use Rattle.sim_report.specs.Running.{changed, columns_by, columns_of_all, fresh, messages_added, queue_column, queue_counts, row_added, rows_added, queues_running, with_row}
-use Rattle.sim_report.specs.Tally.{rank_in, tally_of}
+use Rattle.sim_report.specs.Figures.{rank_in}
+use Rattle.sim_report.specs.Tally.{tally_of}
 use Rattle.sim_report.proofs.Ascending.{length-ascending, sum_by-ascending}
 use Rattle.sim_report.proofs.Tallies.{tallied-is}
 

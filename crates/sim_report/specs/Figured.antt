@@ -1,18 +1,25 @@
 -- The running figures of queues and actors.
-use Rattle.std.specs.Prelude.{ℕ, ◌+◌, ◌-◌, ◌==◌, nat_le, nat_lt, Bool, true, false, codes, cond, max, List, [], ◌∷◌, ◌++◌, fold, length, map, sum, zip, Option, Some, None}
+use Rattle.std.specs.Prelude.{ℕ, ◌+◌, ◌-◌, ◌==◌, ◌&&◌, nat_le, nat_lt, not, Bool, true, false, codes, cond, max, List, [], ◌∷◌, ◌++◌, fold, length, map, option_map, sum, zip, Option, Some, None}
 use Rattle.std.specs.List.{enumerate_from, list_any}
 use Rattle.sqs_message.specs.declared.row.Row.{Row}
-use Rattle.sqs_formats.specs.Report.{ages, ascending, count, depth, is_column, numbers, rows_of}
+use Rattle.sqs_formats.specs.Report.{ages, ascending, count, depth, is_column, numbers, put, rows_of}
 use Rattle.sim_report.specs.declared.fact.Fact.{Fact}
+use Rattle.sim_report.specs.declared.aged.Aged.{Aged}
+use Rattle.sim_report.specs.declared.asked.QueueAsked.{QueueAsked}
+use Rattle.sim_report.specs.declared.asked.Wanted.{Wanted}
+use Rattle.sim_report.specs.declared.backlogs.Backlogs.{Backlogs}
 use Rattle.sim_report.specs.declared.stretch.Stretch.{Stretch}
 use Rattle.sim_report.specs.declared.held.Held.{Held}
+use Rattle.sim_report.specs.declared.lasting.Lasting.{Lasting}
 use Rattle.sim_report.specs.declared.level.Level.{Level}
 use Rattle.sim_report.specs.declared.peak.Peak.{Peak}
+use Rattle.sim_report.specs.declared.polls.Polls.{Polls}
 use Rattle.sim_report.specs.declared.tries.Tries.{Tries}
+use Rattle.sim_report.specs.declared.windows.Worst.{Worst}
 use Rattle.sim_report.specs.Facts.{fact_of, place_in}
-use Rattle.sim_report.specs.Figures.{Figure, age_names, count_names, count_of_row, counts_of, figure_fields, flying, flying_with, held_after, held_with, higher, in_flight, moved_by, moved_here, named_counts, named_peak, named_tries, overlap, peak_of, rows_by, rows_of_moved, rows_of_new, rows_until, rows_within, tries, tries_of}
+use Rattle.sim_report.specs.Figures.{Figure, FiguresAsked, age_by, age_names, age_of_oldest, batches, begins_backlog, comes_in, count_names, counts_of, ends_backlog, figure_fields, flying, flying_with, given_by, held_after, held_with, higher, in_flight, is_asked, is_first, is_full, is_given, is_serving, last_given, last_moment, moved_by, moved_here, named_counts, named_oldest, named_peak, named_requests, named_services, named_tries, no_windows, oldest_before, overlap, peak_of, rank_in, receives_asked, rows_by, rows_of_moved, rows_of_new, rows_until, rows_where, rows_within, start_of, there, there_with, tries, tries_of, waiting, waiting_with, window_of, windows, windows_with, worst_of}
 use Rattle.sim_report.specs.Running.{changed}
-use Rattle.sim_report.specs.Tally.{counted, rank_in, with_age}
+use Rattle.sim_report.specs.Tally.{counted}
 
 -- how many messages came into a queue by these rows, and how many went out
 abbrev pub level_of : List Row → Level
@@ -64,20 +71,98 @@ abbrev pub tries_if : Option ℕ → Tries → Tries
 tries_if None t = t
 tries_if (Some n) t = tries_with n t
 
+-- the moment of the last of these rows, or the one before them
+abbrev pub last_at : ℕ → List Row → ℕ
+last_at at rows = fold (λ at (row : Row). row.key.at) at rows
+
+-- how long something held in a stretch of the rows before, from a moment to the next row's, and so on to the last row's
+abbrev pub time_to_last : (List Row → Bool) → Stretch → List Row → ℕ → List Row → ℕ
+time_to_last holds s before at [] = 0
+time_to_last holds s before at (row ∷ rows) =
+    cond (holds before) (overlap s at row.key.at) 0 + time_to_last holds s (before ++ row ∷ []) row.key.at rows
+
+-- the same from the beginning on, with the last moment
+abbrev pub lasting_of : (List Row → Bool) → Stretch → List Row → Lasting
+lasting_of holds s rows = record { at = last_at 0 rows; total = time_to_last holds s [] 0 rows }
+
+-- with one more row at this moment, where it is known whether something held until then
+abbrev pub lasting_with : Stretch → Bool → ℕ → Lasting → Lasting
+lasting_with s holds at l = record { at = at; total = l.total + cond holds (overlap s l.at at) 0 }
+
+-- how long it held, up to the end of the stretch
+abbrev pub lasting_until : Stretch → Bool → Lasting → ℕ
+lasting_until s holds l = l.total + cond holds (overlap s l.at s.until) 0
+
+-- when a backlog last began, and when one last ended in a stretch
+abbrev pub backlogs_of : ℕ → Stretch → List Row → Backlogs
+backlogs_of few s rows =
+    record {
+      since = last_moment (rows_where (begins_backlog few) [] rows);
+      gone = last_moment (rows_within s (rows_where (ends_backlog few) [] rows));
+    }
+
+-- the same with one more row at this moment, before and after which there was a backlog or not
+abbrev pub backlogs_with : Bool → ℕ → Bool → Bool → Backlogs → Backlogs
+backlogs_with within at was is b =
+    record { since = cond (not was && is) (Some at) b.since; gone = cond within (cond (was && not is) (Some at) b.gone) b.gone }
+
+-- the polls that wait, to whom the last row gave a message, and how many receives were asked for and gave messages
+abbrev pub polls_of : Stretch → List Row → Polls
+polls_of s rows =
+    record { waiting = waiting rows; given = last_given rows; asked = receives_asked s rows; batches = batches s rows }
+
+-- whether a fact is of the first row of a receive
+abbrev pub asks : Fact → Polls → Bool
+asks f p = is_asked f.hold (list_any (λ n. n == f.agent) p.waiting) (is_given p.given f.agent f.at)
+
+-- with one more fact, which lies in the stretch or not
+abbrev pub polls_with : Bool → Fact → Polls → Polls
+polls_with within f p =
+    record {
+      waiting = waiting_with f.hold f.agent p.waiting;
+      given = given_by f.hold f.agent f.at;
+      asked = cond within (cond (asks f p) (p.asked + 1) p.asked) p.asked;
+      batches = cond within (cond (is_first f.hold (is_given p.given f.agent f.at)) (p.batches + 1) p.batches) p.batches;
+    }
+
+-- of no rows
+abbrev pub no_polls : Polls
+no_polls = record { waiting = []; given = None; asked = 0; batches = 0 }
+
+-- the ages in these rows in ascending order, and by windows of time
+abbrev pub aged_of : Wanted → List Row → Aged
+aged_of w rows = record { ages = ascending (ages rows); windows = windows w rows }
+
+abbrev pub no_aged : Aged
+no_aged = record { ages = []; windows = no_windows }
+
+-- with one more age in the window with this number, if there is one
+abbrev pub aged_with : ℕ → ℕ → Aged → Aged
+aged_with n age a = record { ages = put age a.ages; windows = windows_with n (Some age) a.windows }
+
+abbrev pub aged_if : ℕ → Option ℕ → Aged → Aged
+aged_if n None a = a
+aged_if n (Some age) a = aged_with n age a
+
 -- the running figures of a queue
 pub record QueueState : Type 0 where
-  pub name : List ℕ
+  pub asked : QueueAsked
   pub counts : List ℕ
+  pub polls : Polls
   pub tries : Tries
-  pub ages : List ℕ
-  pub new_ages : List ℕ
-  pub moved_ages : List ℕ
+  pub ages : Aged
+  pub new_ages : Aged
+  pub moved_ages : Aged
   pub begun : Bool
   pub level : Level
   pub flying : List ℕ
   pub moved : List ℕ
+  pub there : List (ℕ × ℕ)
   pub depth : Peak
   pub in_flight : Peak
+  pub oldest : Peak
+  pub full : Lasting
+  pub backlogs : Backlogs
 
 -- the counts of no rows
 abbrev pub no_counts : List ℕ
@@ -88,39 +173,50 @@ abbrev pub no_peak : Stretch → Peak
 no_peak s = record { at = s.from; number = 0 }
 
 -- the running figures of a queue without rows
-abbrev pub fresh_queue : Stretch → List ℕ → QueueState
-fresh_queue s name =
+abbrev pub fresh_queue : Stretch → QueueAsked → QueueState
+fresh_queue s asked =
     record {
-      name = name;
+      asked = asked;
       counts = no_counts;
+      polls = no_polls;
       tries = tries_of [];
-      ages = [];
-      new_ages = [];
-      moved_ages = [];
+      ages = no_aged;
+      new_ages = no_aged;
+      moved_ages = no_aged;
       begun = false;
       level = level_of [];
       flying = [];
       moved = [];
+      there = [];
       depth = no_peak s;
       in_flight = no_peak s;
+      oldest = no_peak s;
+      full = record { at = 0; total = 0 };
+      backlogs = record { since = None; gone = None };
     }
 
 -- after these rows of it
-abbrev pub queue_state : ℕ → Stretch → List ℕ → List Row → QueueState
-queue_state queues s name rows =
+abbrev pub queue_state : ℕ → Wanted → QueueAsked → List Row → QueueState
+queue_state queues w asked rows =
+    let s = w.stretch in
     record {
-      name = name;
+      asked = asked;
       counts = counts_of queues (rows_within s rows);
+      polls = polls_of s rows;
       tries = tries_of (tries (rows_within s rows));
-      ages = ascending (ages (rows_within s rows));
-      new_ages = ascending (ages (rows_within s (rows_of_new queues rows)));
-      moved_ages = ascending (ages (rows_within s (rows_of_moved queues rows)));
+      ages = aged_of w (rows_within s rows);
+      new_ages = aged_of w (rows_within s (rows_of_new queues rows));
+      moved_ages = aged_of w (rows_within s (rows_of_moved queues rows));
       begun = has_begun s rows;
       level = level_of rows;
       flying = flying rows;
       moved = moved_here queues rows;
+      there = there rows;
       depth = peak_of depth s rows;
       in_flight = peak_of in_flight s rows;
+      oldest = oldest_before s rows;
+      full = lasting_of (is_full asked.quota) s rows;
+      backlogs = backlogs_of w.backlog s rows;
     }
 
 -- whether the message of a fact had come by a move
@@ -128,14 +224,15 @@ abbrev pub was_moved : Fact → QueueState → Bool
 was_moved f q = list_any (λ n. n == f.number) q.moved
 
 -- with what lies in the stretch, which counts as this
-abbrev pub queue_counting : Option ℕ → Fact → QueueState → QueueState
-queue_counting place f q =
+abbrev pub queue_counting : Option ℕ → Wanted → Fact → QueueState → QueueState
+queue_counting place w f q =
+    let aged : Aged → Aged = aged_if (window_of w f.at) f.count.age in
     record q {
       counts = counted place q.counts;
       tries = tries_if f.tries q.tries;
-      ages = with_age f.count.age q.ages;
-      new_ages = cond (was_moved f q) q.new_ages (with_age f.count.age q.new_ages);
-      moved_ages = cond (was_moved f q) (with_age f.count.age q.moved_ages) q.moved_ages;
+      ages = aged q.ages;
+      new_ages = cond (was_moved f q) q.new_ages (aged q.new_ages);
+      moved_ages = cond (was_moved f q) (aged q.moved_ages) q.moved_ages;
     }
 
 -- with what the row of a fact changes of the messages that are there
@@ -145,6 +242,7 @@ queue_changing place f q =
       level = level_with f.count.column q.level;
       flying = flying_with f.flight f.number q.flying;
       moved = moved_by place f.flight f.number q.moved;
+      there = there_with (comes_in f.count.column) f.flight f.number f.at q.there;
     }
 
 -- with the numbers of messages at a moment, whether the stretch has begun by then or not
@@ -156,71 +254,133 @@ queue_peaking s at q =
       in_flight = peak_with s (begins_by s at q.begun) at (length q.flying) q.in_flight;
     }
 
+-- whether as many messages are in flight as may be
+abbrev pub is_full_by : QueueState → Bool
+is_full_by q = nat_le q.asked.quota (length q.flying)
+
+-- whether more messages than so many are there and not in flight
+abbrev pub is_backlog_by : ℕ → QueueState → Bool
+is_backlog_by few q = nat_lt few (depth_at q.level - length q.flying)
+
+-- with how long the quota was reached and how old the oldest message was before the row of a fact, and the receives
+abbrev pub queue_timing : Stretch → Fact → QueueState → QueueState
+queue_timing s f q =
+    record q {
+      polls = polls_with (nat_le s.from f.at) f q.polls;
+      full = lasting_with s (is_full_by q) f.at q.full;
+      oldest = peak_with s true f.at (age_by f.flight f.at q.there) q.oldest;
+    }
+
+-- with the backlog at a moment, before which there was one or not
+abbrev pub queue_judging : Wanted → ℕ → Bool → QueueState → QueueState
+queue_judging w at was q =
+    record q { backlogs = backlogs_with (nat_le w.stretch.from at) at was (is_backlog_by w.backlog q) q.backlogs }
+
+-- with one more fact, which counts as this, up to the numbers of messages
+abbrev pub queue_counted : Option ℕ → Wanted → Fact → QueueState → QueueState
+queue_counted place w f q =
+    let s = w.stretch in
+    queue_changing place f (queue_timing s f (cond (nat_le s.from f.at) (queue_counting place w f q) q))
+
 -- with one more fact, which counts as this
-abbrev pub queue_with : Option ℕ → Stretch → Fact → QueueState → QueueState
-queue_with place s f q =
-    queue_peaking s f.at (queue_changing place f (cond (nat_le s.from f.at) (queue_counting place f q) q))
+abbrev pub queue_with : Option ℕ → Wanted → Fact → QueueState → QueueState
+queue_with place w f q =
+    queue_judging w f.at (is_backlog_by w.backlog q) (queue_peaking w.stretch f.at (queue_counted place w f q))
 
 -- the numbers of the figures of ages in ascending order
-abbrev pub age_numbers : List ℕ → List (Option ℕ)
-age_numbers ages = Some (sum ages) ∷ rank_in 50 ages ∷ rank_in 95 ages ∷ rank_in 99 ages ∷ rank_in 100 ages ∷ []
+abbrev pub age_numbers : Wanted → Aged → List (Option ℕ)
+age_numbers w a =
+    let worst = worst_of a.windows in
+    Some (sum a.ages) ∷ rank_in 50 a.ages ∷ rank_in 95 a.ages ∷ rank_in 99 a.ages ∷ rank_in 100 a.ages
+    ∷ option_map (λ (x : Worst). x.age) worst ∷ option_map (λ (x : Worst). start_of w x.number) worst ∷ []
 
 -- these figures
-abbrev pub ages_named : List ℕ → List ℕ → List Figure
-ages_named name ages = zip (age_names name) (age_numbers ages)
+abbrev pub ages_named : List ℕ → Wanted → Aged → List Figure
+ages_named name w a = zip (age_names name) (age_numbers w a)
 
--- the figures of a queue that are neither counts nor ages
-unfoldable pub queue_sizes : QueueState → List Figure
-queue_sizes q =
-    named_peak (codes "depth") q.depth ++ (named_peak (codes "in_flight") q.in_flight ++ named_tries q.tries)
+-- what is left of a queue's messages, how long as many were in flight as may be, and its last backlog
+unfoldable pub left_by : Wanted → QueueState → List Figure
+left_by w q =
+    (codes "left", Some (depth_at q.level)) ∷ (codes "left_in_flight", Some (length q.flying))
+    ∷ (codes "quota_ms", Some (lasting_until w.stretch (is_full_by q) q.full))
+    ∷ (codes "backlog_gone_at_ms", cond (is_backlog_by w.backlog q) None q.backlogs.gone)
+    ∷ (codes "backlog_since_ms", cond (is_backlog_by w.backlog q) q.backlogs.since None) ∷ []
 
--- those of ages
-unfoldable pub queue_ages : QueueState → List Figure
-queue_ages q =
-    ages_named (codes "age") q.ages
-    ++ (ages_named (codes "new_age") q.new_ages ++ ages_named (codes "moved_age") q.moved_ages)
+-- the greatest age of its oldest message, as one left or at the last moment of a stretch
+abbrev pub oldest_by : Stretch → QueueState → Peak
+oldest_by s q = higher q.oldest (record { at = s.until - 1; number = age_of_oldest (s.until - 1) q.there })
+
+-- its peaks
+unfoldable pub peaks_by : Stretch → QueueState → List Figure
+peaks_by s q =
+    named_peak (codes "depth") q.depth
+    ++ (named_peak (codes "in_flight") q.in_flight ++ named_oldest (oldest_by s q))
+
+-- the figures of ages
+unfoldable pub queue_ages : Wanted → QueueState → List Figure
+queue_ages w q =
+    ages_named (codes "age") w q.ages
+    ++ (ages_named (codes "new_age") w q.new_ages ++ ages_named (codes "moved_age") w q.moved_ages)
+
+-- those that are neither counts nor ages
+abbrev pub queue_sizes : Wanted → QueueState → List Figure
+queue_sizes w q = peaks_by w.stretch q ++ (left_by w q ++ named_tries q.tries)
 
 -- the figures of a queue
-abbrev pub queue_numbers : QueueState → List Figure
-queue_numbers q = named_counts q.counts ++ (queue_sizes q ++ queue_ages q)
+abbrev pub queue_numbers : Wanted → QueueState → List Figure
+queue_numbers w q =
+    named_counts q.counts ++ (named_requests q.polls.asked q.counts ++ (queue_sizes w q ++ queue_ages w q))
 
--- the running figures of an actor: `busy` up to the moment `at` of its last row
+-- the running figures of an actor
 pub record ActorState : Type 0 where
   pub name : List ℕ
   pub counts : List ℕ
+  pub polls : Polls
   pub held : Held
-  pub at : ℕ
-  pub busy : ℕ
+  pub busy : Lasting
 
 -- with one more fact, which counts as this
 abbrev pub actor_with : Option ℕ → Stretch → Fact → ActorState → ActorState
 actor_with place s f a =
     record a {
       counts = cond (nat_le s.from f.at) (counted place a.counts) a.counts;
+      polls = polls_with (nat_le s.from f.at) f a.polls;
       held = held_with f.hold a.held;
-      at = f.at;
-      busy = a.busy + cond (nat_lt 0 a.held.number) (overlap s a.at f.at) 0;
+      busy = lasting_with s (nat_lt 0 a.held.number) f.at a.busy;
     }
 
 -- of no rows
 abbrev pub fresh_actor : List ℕ → ActorState
-fresh_actor name = record { name = name; counts = no_counts; held = held_after []; at = 0; busy = 0 }
+fresh_actor name =
+    record {
+      name = name;
+      counts = no_counts;
+      polls = no_polls;
+      held = held_after [];
+      busy = record { at = 0; total = 0 };
+    }
 
 -- after these rows of it
 abbrev pub actor_state : ℕ → Stretch → List ℕ → List Row → ActorState
-actor_state queues s name rows = fold (λ a row. actor_with (count_of_row queues row) s (fact_of row) a) (fresh_actor name) rows
-
--- how long it served in a stretch, up to its end
-abbrev pub busy_until_end : Stretch → ActorState → ℕ
-busy_until_end s a = a.busy + cond (nat_lt 0 a.held.number) (overlap s a.at s.until) 0
+actor_state queues s name rows =
+    record {
+      name = name;
+      counts = counts_of queues (rows_within s rows);
+      polls = polls_of s rows;
+      held = held_after rows;
+      busy = lasting_of is_serving s rows;
+    }
 
 -- the figures of an actor
 abbrev pub actor_numbers : Stretch → ActorState → List Figure
-actor_numbers s a = named_counts a.counts ++ ((codes "busy_ms", Some (busy_until_end s a)) ∷ [])
+actor_numbers s a =
+    named_counts a.counts
+    ++ (named_requests a.polls.asked a.counts
+    ++ named_services s a.counts a.polls.batches (lasting_until s (nat_lt 0 a.held.number) a.busy))
 
 -- the running figures of all queues and of all actors
 pub record FiguresState : Type 0 where
-  pub stretch : Stretch
+  pub wanted : Wanted
   pub of_queues : List QueueState
   pub of_actors : List ActorState
 
@@ -234,35 +394,36 @@ actors_with queues place s f actors =
 abbrev pub figures_counting : Option ℕ → Fact → FiguresState → FiguresState
 figures_counting place f t =
     record t {
-      of_queues = changed (queue_with place t.stretch f) f.count.queue t.of_queues;
-      of_actors = actors_with (length t.of_queues) place t.stretch f t.of_actors;
+      of_queues = changed (queue_with place t.wanted f) f.count.queue t.of_queues;
+      of_actors = actors_with (length t.of_queues) place t.wanted.stretch f t.of_actors;
     }
 
 -- with one more fact, if it is before the end of the stretch
 abbrev pub figures_with : Fact → FiguresState → FiguresState
 figures_with f t =
-    cond (nat_lt f.at t.stretch.until) (figures_counting (place_in (length t.of_queues) f) f t) t
+    cond (nat_lt f.at t.wanted.stretch.until) (figures_counting (place_in (length t.of_queues) f) f t) t
 
 -- with more rows
 abbrev pub figures_after : List Row → FiguresState → FiguresState
 figures_after rows t = fold (λ t row. figures_with (fact_of row) t) t rows
 
--- after these rows, which are before the end of the stretch, of the queues and the actors with these names
-unfoldable pub figured_before : List (List ℕ) → List (List ℕ) → Stretch → List Row → FiguresState
-figured_before queues actors s rows =
+-- what is asked for after these rows, which are before the end of the stretch
+unfoldable pub figured_before : FiguresAsked → List Row → FiguresState
+figured_before asked rows =
+    let queues = length asked.queues in
     record {
-      stretch = s;
-      of_queues = map (λ q. queue_state (length queues) s q.1 (rows_of q.0 rows)) (enumerate_from 0 queues);
-      of_actors = map (λ a. actor_state (length queues) s a.1 (rows_by a.0 rows)) (enumerate_from (length queues) actors);
+      wanted = asked.wanted;
+      of_queues = map (λ q. queue_state queues asked.wanted q.1 (rows_of q.0 rows)) (enumerate_from 0 asked.queues);
+      of_actors = map (λ a. actor_state queues asked.wanted.stretch a.1 (rows_by a.0 rows)) (enumerate_from queues asked.actors);
     }
 
--- after these rows; the queues are the first agents
-unfoldable pub figured : List (List ℕ) → List (List ℕ) → Stretch → List Row → FiguresState
-figured queues actors s rows = figured_before queues actors s (rows_until s rows)
+-- after these rows
+unfoldable pub figured : FiguresAsked → List Row → FiguresState
+figured asked rows = figured_before asked (rows_until asked.wanted.stretch rows)
 
 -- the records of a queue's figures
-abbrev pub queue_records : QueueState → List (List (List ℕ))
-queue_records q = map (figure_fields q.name) (queue_numbers q)
+abbrev pub queue_records : Wanted → QueueState → List (List (List ℕ))
+queue_records w q = map (figure_fields q.asked.name) (queue_numbers w q)
 
 -- the records of an actor's figures
 abbrev pub actor_records : Stretch → ActorState → List (List (List ℕ))

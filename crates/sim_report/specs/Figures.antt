@@ -1,7 +1,8 @@
 -- Figures: what a stretch of a run says of a queue or an actor, over the rows of its log.
-use Rattle.std.specs.Prelude.{ℕ, ◌+◌, ◌-◌, ◌==◌, nat_le, nat_lt, not, Bool, true, false, codes, cond, max, List, [], ◌∷◌, ◌++◌, filter, filter_map, flat_map, fold, length, map, option_map, sum, zip, Option, Some, None}
-use Rattle.std.specs.BTreeMap.{is_at}
+use Rattle.std.specs.Prelude.{ℕ, ◌+◌, ◌-◌, ◌*◌, ◌/◌, ◌==◌, nat_le, nat_lt, not, ◌&&◌, ◌||◌, Bool, true, false, codes, cond, max, List, [], ◌∷◌, ◌++◌, filter, filter_map, flat_map, fold, get_or, length, map, option_map, slice_get, sum, zip, Option, Some, None}
+use Rattle.std.specs.BTreeMap.{insert_entry, is_at}
 use Rattle.std.specs.BTreeSet.{insert_key}
+use Rattle.std.specs.Map.{remove_entry}
 use Rattle.std.specs.Set.{remove_key}
 use Rattle.std.specs.Fmt.{decimal}
 use Rattle.std.specs.List.{enumerate_from, list_any}
@@ -18,16 +19,27 @@ use Rattle.sqs_message.specs.declared.row.RowReceipt.{RowReceipt}
 use Rattle.sqs_message.specs.declared.row.RowReceipt.TheVariants as receipts
 use Rattle.sqs_message.specs.declared.row.Detail.{Detail}
 use Rattle.sqs_message.specs.declared.row.Detail.TheVariants as details
-use Rattle.sqs_formats.specs.Report.{ages, counts_in, depth, greatest, is_column, numbers, rank, rows_of}
+use Rattle.sqs_formats.specs.Report.{age_when, ages, column, counts_in, depth, greatest, is_column, numbers, put, rank, rows_of}
 use Rattle.sqs_formats.specs.Rows.{lines, text_if}
 use Rattle.sim_report.specs.declared.stretch.Stretch.{Stretch}
+use Rattle.sim_report.specs.declared.asked.QueueAsked.{QueueAsked}
+use Rattle.sim_report.specs.declared.asked.Wanted.{Wanted}
 use Rattle.sim_report.specs.declared.held.Held.{Held}
+use Rattle.sim_report.specs.declared.polls.Given.{Given}
 use Rattle.sim_report.specs.declared.peak.Peak.{Peak}
 use Rattle.sim_report.specs.declared.tries.Tries.{Tries}
+use Rattle.sim_report.specs.declared.windows.Windows.{Windows}
+use Rattle.sim_report.specs.declared.windows.Worst.{Worst}
 use Rattle.sim_report.specs.declared.fact.Flight.{Flight}
 use Rattle.sim_report.specs.declared.fact.Flight.TheVariants.{Begins, Leaves, Returns, Stays}
 use Rattle.sim_report.specs.declared.fact.Hold.{Hold}
-use Rattle.sim_report.specs.declared.fact.Hold.TheVariants.{Asks, Keeps, Settles, Takes}
+use Rattle.sim_report.specs.declared.fact.Hold.TheVariants.{Asks, Keeps, Settles, Takes, Waits}
+
+-- what figures are asked for: the queues, which are the first agents, the names of the next agents, and what is wanted
+pub record FiguresAsked : Type 0 where
+  pub queues : List QueueAsked
+  pub actors : List (List ℕ)
+  pub wanted : Wanted
 
 -- the rows before the end of a stretch; all that follows is over these
 abbrev pub rows_until : Stretch → List Row → List Row
@@ -53,14 +65,15 @@ rows_by n rows = filter (λ row. row.agent == n) rows
 abbrev pub overlap : Stretch → ℕ → ℕ → ℕ
 overlap s first last = last - max first s.from
 
--- the names of what is counted, by place, where the lines begin with 0, 5, 10, 14 and 19; a row counts once at most
+-- the names of what is counted, by place, where the lines begin with 0, 5, 10, 14, 19 and 24; a row counts once at most
 unfoldable pub count_names : List (List ℕ)
 count_names =
     codes "sent" ∷ codes "sent_again" ∷ codes "came_by_forward" ∷ codes "came_by_redrive" ∷ codes "came_by_move"
     ∷ codes "forwarded_again" ∷ codes "receives" ∷ codes "waits" ∷ codes "empty_receives" ∷ codes "deleted"
     ∷ codes "deletes_by_older_receipt" ∷ codes "deletes_of_gone" ∷ codes "changes" ∷ codes "failed_services"
     ∷ codes "forwarded" ∷ codes "dead_lettered" ∷ codes "moved_away" ∷ codes "lost_by_expiry" ∷ codes "refused_sends"
-    ∷ codes "refused_receives" ∷ codes "refused_deletes" ∷ codes "refused_changes" ∷ []
+    ∷ codes "refused_receives" ∷ codes "refused_deletes" ∷ codes "refused_changes" ∷ codes "starts" ∷ codes "cancels"
+    ∷ codes "refused_starts" ∷ codes "refused_cancels" ∷ []
 
 -- whether a message that arrived is of an origin of its own, as what a consumer forwards
 abbrev pub is_own : Option MessageId → Detail → Bool
@@ -89,6 +102,10 @@ counted_as kinds.Send (answers.Refused r) = Some 18
 counted_as kinds.Receive (answers.Refused r) = Some 19
 counted_as kinds.Delete (answers.Refused r) = Some 20
 counted_as kinds.Change (answers.Refused r) = Some 21
+counted_as kinds.Start answers.Ok = Some 22
+counted_as kinds.Cancel answers.Ok = Some 23
+counted_as kinds.Start (answers.Refused r) = Some 24
+counted_as kinds.Cancel (answers.Refused r) = Some 25
 counted_as kind answer = None
 
 -- how an arrival came: by a forward, which has an origin of its own; by a redrive, which a queue sent; or by a move
@@ -112,19 +129,19 @@ counts_of queues rows = map (counted_in queues rows) (numbers 0 count_names)
 abbrev pub higher : Peak → Peak → Peak
 higher first second = cond (nat_lt first.number second.number) second first
 
--- what a number of rows so far is after those of these rows that lie in a stretch, with their moments; `before` come
--- before
-abbrev pub levels_from : (List Row → ℕ) → Stretch → List Row → List Row → List Peak
+-- the numbers that these rows, where they lie in a stretch, have by the rows before them, with their moments; `before`
+-- come before all
+abbrev pub levels_from : (List Row → Row → ℕ) → Stretch → List Row → List Row → List Peak
 levels_from level s before [] = []
 levels_from level s before (row ∷ rows) =
-    let so_far = before ++ row ∷ [] in
-    cond (is_within s row) (record { at = row.key.at; number = level so_far } ∷ []) []
-    ++ levels_from level s so_far rows
+    cond (is_within s row) (record { at = row.key.at; number = level before row } ∷ []) []
+    ++ levels_from level s (before ++ row ∷ []) rows
 
 -- the greatest of such a number, at the beginning of a stretch or after one of its rows, with the first such moment
 abbrev pub peak_of : (List Row → ℕ) → Stretch → List Row → Peak
 peak_of level s rows =
-    fold higher (record { at = s.from; number = level (rows_before s rows) }) (levels_from level s [] rows)
+    fold higher (record { at = s.from; number = level (rows_before s rows) })
+    (levels_from (λ before row. level (before ++ row ∷ [])) s [] rows)
 
 -- what a row does to its message: receives it, brings it back or takes it out of the queue
 abbrev pub flight_of : RowKind → RowAnswer → Flight
@@ -155,6 +172,48 @@ flying rows = fold (λ ns (row : Row). flying_with (flight_of row.kind row.answe
 -- how many there are
 abbrev pub in_flight : List Row → ℕ
 in_flight rows = length (flying rows)
+
+-- the messages that are there, by their numbers in ascending order, with the moments at which they came
+abbrev pub there_with : Bool → Flight → ℕ → ℕ → List (ℕ × ℕ) → List (ℕ × ℕ)
+there_with true flight n at ms = insert_entry nat_cmp ms n at
+there_with false Leaves n at ms = remove_entry (is_at (nat_cmp n)) ms
+there_with false flight n at ms = ms
+
+-- whether a row brings a message into a queue
+abbrev pub comes_in : Option ℕ → Bool
+comes_in column = is_column 0 column || is_column 8 column
+
+abbrev pub there_by : List (ℕ × ℕ) → Row → List (ℕ × ℕ)
+there_by ms row =
+    let comes = comes_in (column row.kind row.answer) in
+    there_with comes (flight_of row.kind row.answer) (number_of row.message) row.key.at ms
+
+abbrev pub there : List Row → List (ℕ × ℕ)
+there rows = fold there_by [] rows
+
+-- how long the first of these messages has been there at a moment: the oldest, since they come by their numbers
+abbrev pub age_of : ℕ → Option (ℕ × ℕ) → ℕ
+age_of at (Some m) = at - m.1
+age_of at None = 0
+
+abbrev pub age_of_oldest : ℕ → List (ℕ × ℕ) → ℕ
+age_of_oldest at ms = age_of at (slice_get ms 0)
+
+-- the same where a message leaves, by the rows before, and else 0
+abbrev pub age_by : Flight → ℕ → List (ℕ × ℕ) → ℕ
+age_by Leaves at ms = age_of_oldest at ms
+age_by flight at ms = 0
+
+abbrev pub age_before : List Row → Row → ℕ
+age_before before row = age_by (flight_of row.kind row.answer) row.key.at (there before)
+
+-- the greatest age of the oldest message as one left in a stretch; and so, or at the last moment of the stretch
+abbrev pub oldest_before : Stretch → List Row → Peak
+oldest_before s rows = fold higher (record { at = s.from; number = 0 }) (levels_from age_before s [] rows)
+
+abbrev pub oldest : Stretch → List Row → Peak
+oldest s rows =
+    higher (oldest_before s rows) (record { at = s.until - 1; number = age_of_oldest (s.until - 1) (there rows) })
 
 -- how often the message of a row had been received in its queue, if the row deleted it: its receipt is the newest, and
 -- counts the receives
@@ -214,6 +273,7 @@ rows_of_new queues rows = rows_where (λ before row. not (is_moved queues before
 -- what a row of an actor changes of the messages that it holds
 abbrev pub hold_of : RowKind → RowAnswer → Hold
 hold_of kinds.Receive answers.Ok = Takes
+hold_of kinds.Receive answers.Wait = Waits
 hold_of kinds.Receive answer = Asks
 hold_of kinds.Delete answer = Settles
 hold_of kinds.Fail answer = Settles
@@ -222,6 +282,7 @@ hold_of kind answer = Keeps
 -- what it holds after a row that changes this
 abbrev pub held_with : Hold → Held → Held
 held_with Takes h = record { number = cond h.receiving (h.number + 1) 1; receiving = true }
+held_with Waits h = record { number = 0; receiving = false }
 held_with Asks h = record { number = 0; receiving = false }
 held_with Settles h = record { number = h.number - 1; receiving = false }
 held_with Keeps h = h
@@ -248,6 +309,121 @@ time_from holds s before at (row ∷ rows) =
 abbrev pub time_while : (List Row → Bool) → Stretch → List Row → ℕ
 time_while holds s rows = time_from holds s [] 0 rows
 
+-- whether the messages in flight are as many as a queue may have
+abbrev pub is_full : ℕ → List Row → Bool
+is_full quota rows = nat_le quota (in_flight rows)
+
+-- whether more messages than so many are there and not in flight
+abbrev pub is_backlog : ℕ → List Row → Bool
+is_backlog few rows = nat_lt few (depth rows - in_flight rows)
+
+-- whether a backlog begins with a row, or ends
+abbrev pub begins_backlog : ℕ → List Row → Row → Bool
+begins_backlog few before row = not (is_backlog few before) && is_backlog few (before ++ row ∷ [])
+
+abbrev pub ends_backlog : ℕ → List Row → Row → Bool
+ends_backlog few before row = is_backlog few before && not (is_backlog few (before ++ row ∷ []))
+
+-- the moment of the last of some rows
+abbrev pub last_moment : List Row → Option ℕ
+last_moment rows = fold (λ at (row : Row). Some row.key.at) None rows
+
+-- the last moment in a stretch at which a backlog ended, unless there is one in the end; and since when there is that
+abbrev pub backlog_gone : ℕ → Stretch → List Row → Option ℕ
+backlog_gone few s rows =
+    cond (is_backlog few rows) None (last_moment (rows_within s (rows_where (ends_backlog few) [] rows)))
+
+abbrev pub backlog_since : ℕ → List Row → Option ℕ
+backlog_since few rows = cond (is_backlog few rows) (last_moment (rows_where (begins_backlog few) [] rows)) None
+
+-- the agents whose polls wait, by their numbers in ascending order, with one more row
+abbrev pub waiting_with : Hold → ℕ → List ℕ → List ℕ
+waiting_with Waits n ns = insert_key nat_cmp ns n
+waiting_with Takes n ns = remove_key (is_at (nat_cmp n)) ns
+waiting_with Asks n ns = remove_key (is_at (nat_cmp n)) ns
+waiting_with hold n ns = ns
+
+-- these agents after these rows
+abbrev pub waiting : List Row → List ℕ
+waiting rows = fold (λ ns (row : Row). waiting_with (hold_of row.kind row.answer) row.agent ns) [] rows
+
+-- to whom and when a row gave a message, if it did, and whether the last row did to this agent at this moment
+abbrev pub given_by : Hold → ℕ → ℕ → Option Given
+given_by Takes agent at = Some (record { agent = agent; at = at })
+given_by hold agent at = None
+
+abbrev pub last_given : List Row → Option Given
+last_given rows = fold (λ given (row : Row). given_by (hold_of row.kind row.answer) row.agent row.key.at) None rows
+
+abbrev pub is_given : Option Given → ℕ → ℕ → Bool
+is_given (Some given) agent at = (given.agent == agent) && (given.at == at)
+is_given None agent at = false
+
+-- whether a row is the first of a request: no answer to a poll that waits, nor a further message of the same receive
+abbrev pub is_asked : Hold → Bool → Bool → Bool
+is_asked Takes waits given = not (waits || given)
+is_asked Waits waits given = true
+is_asked Asks waits given = not waits
+is_asked hold waits given = false
+
+abbrev pub begins_receive : List Row → Row → Bool
+begins_receive before row =
+    is_asked (hold_of row.kind row.answer) (list_any (λ n. n == row.agent) (waiting before))
+    (is_given (last_given before) row.agent row.key.at)
+
+-- how many receives were asked for
+abbrev pub receives_asked : Stretch → List Row → ℕ
+receives_asked s rows = length (rows_within s (rows_where begins_receive [] rows))
+
+-- whether a row is the first message of a receive, and how many receives gave messages
+abbrev pub is_first : Hold → Bool → Bool
+is_first Takes given = not given
+is_first hold given = false
+
+abbrev pub begins_batch : List Row → Row → Bool
+begins_batch before row = is_first (hold_of row.kind row.answer) (is_given (last_given before) row.agent row.key.at)
+
+abbrev pub batches : Stretch → List Row → ℕ
+batches s rows = length (rows_within s (rows_where begins_batch [] rows))
+
+-- the window of time in which a moment lies, by its number, and the first moment of a window
+abbrev pub window_of : Wanted → ℕ → ℕ
+window_of w at = cond (w.window == 0) 0 ((at - w.stretch.from) / w.window)
+
+abbrev pub start_of : Wanted → ℕ → ℕ
+start_of w n = w.stretch.from + n * w.window
+
+-- the worse of two windows, the second of which has this number and age, if it has any; the first one if they are equal
+abbrev pub worse : Option Worst → ℕ → Option ℕ → Option Worst
+worse worst n None = worst
+worse None n (Some age) = Some (record { number = n; age = age })
+worse (Some worst) n (Some age) = Some (cond (nat_lt worst.age age) (record { number = n; age = age }) worst)
+
+-- the nearest rank of numbers in ascending order: the least such that `percent` of 100 are at or below it
+abbrev pub rank_in : ℕ → List ℕ → Option ℕ
+rank_in percent sorted = slice_get sorted ((percent * length sorted + 99) / 100 - 1)
+
+-- the worst window by the 95th percentile of its ages, of which those of the last one are in ascending order
+abbrev pub worst_of : Windows → Option Worst
+worst_of w = worse w.worst w.number (rank_in 95 w.ages)
+
+-- with the age in one more row, if it has one: the rows of a window come one after another
+abbrev pub windows_with : ℕ → Option ℕ → Windows → Windows
+windows_with n None w = w
+windows_with n (Some age) w =
+    cond (w.number == n) (record w { ages = put age w.ages })
+    (record { number = n; ages = age ∷ []; worst = worst_of w })
+
+abbrev pub no_windows : Windows
+no_windows = record { number = 0; ages = []; worst = None }
+
+-- the windows of the ages in these rows
+abbrev pub windows_by : Wanted → Windows → Row → Windows
+windows_by w x row = windows_with (window_of w row.key.at) (age_when (counts_in 4 row) row.detail) x
+
+abbrev pub windows : Wanted → List Row → Windows
+windows w rows = fold (windows_by w) no_windows rows
+
 -- a figure: its name and its number, if there is one
 abbrev pub Figure : Type 0
 Figure = List ℕ × Option ℕ
@@ -256,10 +432,31 @@ Figure = List ℕ × Option ℕ
 abbrev pub named_counts : List ℕ → List Figure
 named_counts ns = map (λ p. (p.0, Some p.1)) (zip count_names ns)
 
+-- the requests by the actions of SQS, from the counts and from how many receives were asked for: a forward is sent as
+-- it arrives, and a refused request is one
+unfoldable pub named_requests : ℕ → List ℕ → List Figure
+named_requests receives counts =
+    let of : ℕ → ℕ = λ n. get_or counts n 0 in
+    let sends = of 0 + of 1 + of 2 + of 5 + of 18 in
+    let deletes = of 9 + of 10 + of 11 + of 20 in
+    let changes = of 12 + of 21 in
+    let starts = of 22 + of 24 in
+    let cancels = of 23 + of 25 in
+    (codes "SendMessage", Some sends) ∷ (codes "ReceiveMessage", Some receives) ∷ (codes "DeleteMessage", Some deletes)
+    ∷ (codes "ChangeMessageVisibility", Some changes) ∷ (codes "StartMessageMoveTask", Some starts)
+    ∷ (codes "CancelMessageMoveTask", Some cancels)
+    ∷ (codes "requests", Some (sends + receives + deletes + changes + starts + cancels))
+    ∷ (codes "refused_requests", Some (of 18 + of 19 + of 20 + of 21 + of 24 + of 25)) ∷ []
+
 -- a peak by its names
 abbrev pub named_peak : List ℕ → Peak → List Figure
 named_peak name peak =
     (name ++ codes "_greatest", Some peak.number) ∷ (name ++ codes "_greatest_at_ms", Some peak.at) ∷ []
+
+-- the greatest age of the oldest message by its names
+abbrev pub named_oldest : Peak → List Figure
+named_oldest peak =
+    (codes "oldest_age_greatest_ms", Some peak.number) ∷ (codes "oldest_age_greatest_at_ms", Some peak.at) ∷ []
 
 -- tries by their names
 abbrev pub named_tries : Tries → List Figure
@@ -271,27 +468,55 @@ named_tries t =
 abbrev pub age_names : List ℕ → List (List ℕ)
 age_names name =
     map (λ what. name ++ what)
-    (codes "_sum_ms" ∷ codes "_p50_ms" ∷ codes "_p95_ms" ∷ codes "_p99_ms" ∷ codes "_greatest_ms" ∷ [])
+    (codes "_sum_ms" ∷ codes "_p50_ms" ∷ codes "_p95_ms" ∷ codes "_p99_ms" ∷ codes "_greatest_ms"
+    ∷ codes "_window_p95_ms" ∷ codes "_window_p95_at_ms" ∷ [])
 
--- ages by these names
-abbrev pub named_ages : List ℕ → List ℕ → List Figure
-named_ages name ages =
-    zip (age_names name) (Some (sum ages) ∷ rank 50 ages ∷ rank 95 ages ∷ rank 99 ages ∷ rank 100 ages ∷ [])
+-- the ages in these rows by these names
+abbrev pub named_ages : List ℕ → Wanted → List Row → List Figure
+named_ages name w rows =
+    let all = ages rows in
+    let worst = worst_of (windows w rows) in
+    zip (age_names name) (Some (sum all) ∷ rank 50 all ∷ rank 95 all ∷ rank 99 all ∷ rank 100 all
+    ∷ option_map (λ (x : Worst). x.age) worst ∷ option_map (λ (x : Worst). start_of w x.number) worst ∷ [])
+
+-- what is left of a queue's messages, how long as many were in flight as may be, and its last backlog
+abbrev pub named_left : QueueAsked → Wanted → List Row → List Figure
+named_left q w rows =
+    (codes "left", Some (depth rows)) ∷ (codes "left_in_flight", Some (in_flight rows))
+    ∷ (codes "quota_ms", Some (time_while (is_full q.quota) w.stretch rows))
+    ∷ (codes "backlog_gone_at_ms", backlog_gone w.backlog w.stretch rows)
+    ∷ (codes "backlog_since_ms", backlog_since w.backlog rows) ∷ []
 
 -- the figures of a queue over its rows, where so many queues are the first agents
-abbrev pub queue_figures : ℕ → Stretch → List Row → List Figure
-queue_figures queues s rows =
-    named_counts (counts_of queues (rows_within s rows)) ++ (named_peak (codes "depth") (peak_of depth s rows)
-    ++ (named_peak (codes "in_flight") (peak_of in_flight s rows)
-    ++ (named_tries (tries_of (tries (rows_within s rows)))
-    ++ (named_ages (codes "age") (ages (rows_within s rows))
-    ++ (named_ages (codes "new_age") (ages (rows_within s (rows_of_new queues rows)))
-    ++ named_ages (codes "moved_age") (ages (rows_within s (rows_of_moved queues rows))))))))
+abbrev pub queue_figures : ℕ → Wanted → QueueAsked → List Row → List Figure
+queue_figures queues w q rows =
+    let s = w.stretch in
+    let counts = counts_of queues (rows_within s rows) in
+    named_counts counts ++ (named_requests (receives_asked s rows) counts
+    ++ (named_peak (codes "depth") (peak_of depth s rows) ++ (named_peak (codes "in_flight") (peak_of in_flight s rows)
+    ++ (named_oldest (oldest s rows) ++ (named_left q w rows ++ (named_tries (tries_of (tries (rows_within s rows)))
+    ++ (named_ages (codes "age") w (rows_within s rows)
+    ++ (named_ages (codes "new_age") w (rows_within s (rows_of_new queues rows))
+    ++ named_ages (codes "moved_age") w (rows_within s (rows_of_moved queues rows))))))))))
+
+-- a time in thousandths of a stretch, rounded down
+abbrev pub permille : Stretch → ℕ → Option ℕ
+permille s ms = cond (nat_lt s.from s.until) (Some (1000 * ms / (s.until - s.from))) None
+
+-- the services that ended by these counts, how many receives gave messages, and how long the actor was busy
+unfoldable pub named_services : Stretch → List ℕ → ℕ → ℕ → List Figure
+named_services s counts batches busy =
+    let of : ℕ → ℕ = λ n. get_or counts n 0 in
+    (codes "services", Some (of 9 + of 10 + of 11 + of 20 + of 13)) ∷ (codes "batches", Some batches)
+    ∷ (codes "busy_ms", Some busy) ∷ (codes "busy_permille", permille s busy) ∷ []
 
 -- the figures of an actor over its rows
 abbrev pub actor_figures : ℕ → Stretch → List Row → List Figure
 actor_figures queues s rows =
-    named_counts (counts_of queues (rows_within s rows)) ++ (codes "busy_ms", Some (time_while is_serving s rows)) ∷ []
+    let counts = counts_of queues (rows_within s rows) in
+    named_counts counts
+    ++ (named_requests (receives_asked s rows) counts
+    ++ named_services s counts (batches s rows) (time_while is_serving s rows))
 
 -- the fields of a figure of a queue or actor with this name
 abbrev pub figure_fields : List ℕ → Figure → List (List ℕ)
@@ -301,21 +526,21 @@ figure_fields of f = codes "figure" ∷ of ∷ f.0 ∷ text_if decimal f.1 ∷ [
 abbrev pub figures_header : List (List ℕ)
 figures_header = codes "figure" ∷ codes "of" ∷ codes "name" ∷ codes "value" ∷ []
 
--- the records of a queue's figures, and of an actor's, by its number and name
-abbrev pub figures_of_queue : ℕ → Stretch → List Row → ℕ × List ℕ → List (List (List ℕ))
-figures_of_queue queues s rows q = map (figure_fields q.1) (queue_figures queues s (rows_of q.0 rows))
+-- the records of a queue's figures, and of an actor's, by its number
+abbrev pub figures_of_queue : ℕ → Wanted → List Row → ℕ × QueueAsked → List (List (List ℕ))
+figures_of_queue queues w rows q = map (figure_fields q.1.name) (queue_figures queues w q.1 (rows_of q.0 rows))
 
 abbrev pub figures_of_actor : ℕ → Stretch → List Row → ℕ × List ℕ → List (List (List ℕ))
 figures_of_actor queues s rows a = map (figure_fields a.1) (actor_figures queues s (rows_by a.0 rows))
 
--- the records of the figures of queues and actors with these names, over rows before the end of a stretch; the queues
--- are the first agents
-abbrev pub figures_records : List (List ℕ) → List (List ℕ) → Stretch → List Row → List (List (List ℕ))
-figures_records queues actors s rows =
+-- the records of the figures that are asked for, over rows before the end of the stretch
+abbrev pub figures_records : FiguresAsked → List Row → List (List (List ℕ))
+figures_records asked rows =
+    let queues = length asked.queues in
     figures_header
-    ∷ (flat_map (figures_of_queue (length queues) s rows) (enumerate_from 0 queues)
-    ++ flat_map (figures_of_actor (length queues) s rows) (enumerate_from (length queues) actors))
+    ∷ (flat_map (figures_of_queue queues asked.wanted rows) (enumerate_from 0 asked.queues)
+    ++ flat_map (figures_of_actor queues asked.wanted.stretch rows) (enumerate_from queues asked.actors))
 
 -- the figures of a run
-abbrev pub figures_text : List (List ℕ) → List (List ℕ) → Stretch → List Row → List ℕ
-figures_text queues actors s rows = lines (figures_records queues actors s (rows_until s rows))
+abbrev pub figures_text : FiguresAsked → List Row → List ℕ
+figures_text asked rows = lines (figures_records asked (rows_until asked.wanted.stretch rows))

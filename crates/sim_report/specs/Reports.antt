@@ -7,21 +7,19 @@ use Rattle.sim_report.specs.declared.left.Left.{Left}
 use Rattle.sim_report.specs.Left.{lefts}
 use Rattle.sim_report.specs.declared.fact.Fact.{Fact}
 use Rattle.sim_report.specs.declared.queue.QueueCounts.{QueueCounts}
-use Rattle.sim_report.specs.declared.stretch.Stretch.{Stretch}
 use Rattle.sim_report.specs.Facts.{fact_of}
 use Rattle.sim_report.specs.Figured.{FiguresState, figured, figures_with}
-use Rattle.sim_report.specs.Figures.{figures_text}
+use Rattle.sim_report.specs.Figures.{FiguresAsked, figures_text}
 use Rattle.sim_report.specs.Running.{count_added, queues_running}
 
--- what a report is to have: the names of the queues and of the other agents, and the stretch of figures if they are wanted
+-- what a report is to have: the names of the queues, and figures if they are wanted
 pub record Asked : Type 0 where
   pub queues : List (List ℕ)
-  pub actors : List (List ℕ)
-  pub stretch : Option Stretch
+  pub figures : Option FiguresAsked
 
 -- a report of queues with these names, without figures
 abbrev pub asked_plain : List (List ℕ) → Asked
-asked_plain queues = record { queues = queues; actors = []; stretch = None }
+asked_plain queues = record { queues = queues; figures = None }
 
 -- a report so far
 pub record Counts : Type 0 where
@@ -34,7 +32,7 @@ begun_with names figures = record { queues = queues_running names []; figures = 
 
 -- the running figures after these rows, if figures are asked for
 abbrev pub figures_asked : Asked → List Row → Option FiguresState
-figures_asked asked rows = option_map (λ s. figured asked.queues asked.actors s rows) asked.stretch
+figures_asked asked rows = option_map (λ f. figured f rows) asked.figures
 
 -- the report after these rows
 abbrev pub running : Asked → List Row → Counts
@@ -66,7 +64,7 @@ OfLeft counts left P =
 
 -- the figures over these rows as text, if they are asked for
 abbrev pub figures_if : Asked → List Row → List ℕ
-figures_if asked rows = unwrap_or (option_map (λ s. figures_text asked.queues asked.actors s rows) asked.stretch) []
+figures_if asked rows = unwrap_or (option_map (λ f. figures_text f rows) asked.figures) []
 
 -- what holds of the figures of the rows that are counted so
 abbrev pub OfFigures : Counts → (List ℕ → Type 0) → Type 0

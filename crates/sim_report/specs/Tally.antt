@@ -1,8 +1,9 @@
 -- The running counts of one queue.
-use Rattle.std.specs.Prelude.{ℕ, ◌+◌, ◌-◌, ◌*◌, ◌/◌, max, List, length, map, set, get_or, slice_get, Option, Some, None, [], sum, ◌∷◌}
+use Rattle.std.specs.Prelude.{ℕ, ◌+◌, ◌-◌, max, List, map, set, get_or, Option, Some, None, [], sum, ◌∷◌}
 use Rattle.sqs_message.specs.declared.row.Row.{Row}
 use Rattle.sim_report.specs.declared.column.RowCount.{RowCount}
 use Rattle.sim_report.specs.declared.left.Left.{Left}
+use Rattle.sim_report.specs.Figures.{rank_in}
 use Rattle.sqs_formats.specs.Report.{age_when, ages, ascending, column, count, counted_columns, depth_max, is_column, numbers, put}
 
 -- how many rows each counting column has, how many messages there were at once at most, and the
@@ -60,10 +61,6 @@ tallied_in c row t = tallied_by (count_in c row) t
 -- the running counts with one more row
 abbrev pub tallied : Row → TallyState → TallyState
 tallied row t = tallied_by (count_of row) t
-
--- the nearest rank of numbers in ascending order: the least such that `percent` of 100 are at or below it
-abbrev pub rank_in : ℕ → List ℕ → Option ℕ
-rank_in percent sorted = slice_get sorted ((percent * length sorted + 99) / 100 - 1)
 
 -- the columns that count no rows: by the greatest depth, what is left, and the ages at deletion
 abbrev pub others_by : ℕ → Left → List ℕ → List (Option ℕ)

@@ -1,12 +1,14 @@
 //! The running figures of an actor.
 ghost use Rattle.std.specs.Prelude.{◌≡◌, ◌++◌, map, OnOk};
-ghost use Rattle.sim_report.specs.Figured.{actor_numbers, actor_with, busy_until_end, fresh_actor};
+ghost use Rattle.sim_report.specs.Figured.{actor_numbers, actor_with, fresh_actor};
 ghost use Rattle.sim_report.specs.Figures.{figure_fields};
 ghost use Rattle.sqs_formats.specs.Rows.{lines};
 
 use crate::fact::Fact;
-use crate::figure::{COUNTS, Figure, add_figures, named_counts};
+use crate::figure::{COUNTS, add_figures, named_counts, named_requests, named_services};
 use crate::held::{Held, NOTHING};
+use crate::lasting::{Lasting, NO_TIME};
+use crate::polls::Polls;
 use crate::stretch::Stretch;
 use crate::tally::count_in;
 use sim_records::Lines;
@@ -19,11 +21,10 @@ use std::marker::Model;
 pub(crate) struct ActorFigures {
     name: Text,
     counts: [u64; COUNTS],
+    polls: Polls,
     held: Held,
-    // The moment of its last row, in milliseconds.
-    at: u64,
-    // How long it served up to there, in milliseconds.
-    busy: u64,
+    // How long it served.
+    busy: Lasting,
 }
 
 impl Model for ActorFigures {
@@ -31,21 +32,21 @@ impl Model for ActorFigures {
 
     ghost Value = { ActorState };
 
-    ghost view = { λ a. record { name = a.name; counts = a.counts; held = a.held; at = a.at; busy = a.busy } };
+    ghost view = { λ a. record { name = a.name; counts = a.counts; polls = a.polls; held = a.held; busy = a.busy } };
 }
 
 impl ActorFigures {
     /// The figures of no rows.
     #[tactic(auto, unfolding(crate::specs::Figures::count_names))]
-    pub(crate) fn new(name: Text) -> ActorFigures
+    pub(crate) fn new(alloc: Global, name: Text) -> ActorFigures
         ensures { result ≡ fresh_actor name }
     {
         ActorFigures {
             name,
             counts: [0; COUNTS],
+            polls: Polls::new(alloc),
             held: NOTHING,
-            at: 0,
-            busy: 0,
+            busy: NO_TIME,
         }
     }
 
@@ -62,28 +63,13 @@ impl ActorFigures {
     ) -> Result<(), AllocError>
         ensures { OnOk result (self.new ≡ actor_with place stretch fact.now self.old) }
     {
-        if self.held.number > 0 {
-            let served = stretch.overlap(self.at, fact.at);
-            self.busy = self.busy.checked_add(served).ok_or(AllocError)?;
-        }
-        self.at = fact.at;
+        self.busy.take(stretch, self.held.number > 0, fact.at)?;
         self.held = self.held.after(fact.hold)?;
+        self.polls.take(stretch.from <= fact.at, fact)?;
         if stretch.from <= fact.at {
             count_in(&mut self.counts, place)?;
         }
         Ok(())
-    }
-
-    // How long it served in the stretch, up to its end, in milliseconds.
-    fn busy(&self, stretch: Stretch) -> u128
-        ensures { result ≡ busy_until_end stretch self.now }
-    {
-        let rest = if self.held.number > 0 {
-            stretch.overlap(self.at, stretch.until)
-        } else {
-            0
-        };
-        u128::from(self.busy) + u128::from(rest)
     }
 
     /// Adds the lines of its figures.
@@ -100,9 +86,12 @@ impl ActorFigures {
         ensures { OnOk result (text.new
             ≡ text.old ++ lines (map (figure_fields self.now.name) (actor_numbers stretch self.now))) }
     {
+        let of = self.name.as_bytes();
+        let busy = self.busy.until_end(stretch, self.held.number > 0);
         let counts = named_counts(alloc, &self.counts)?;
-        let busy = Figure::of(b"busy_ms", Some(self.busy(stretch)));
-        add_figures(text, self.name.as_bytes(), counts.as_slice())?;
-        add_figures(text, self.name.as_bytes(), &[busy])
+        add_figures(text, of, counts.as_slice())?;
+        add_figures(text, of, &named_requests(self.polls.asked, &self.counts))?;
+        let services = named_services(stretch, &self.counts, self.polls.batches, busy);
+        add_figures(text, of, &services)
     }
 }

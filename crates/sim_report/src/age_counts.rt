@@ -4,7 +4,7 @@ ghost use Rattle.std.specs.List.{prefix_len};
 ghost use Rattle.std.specs.List.Sorted.{IsNonDecreasing};
 ghost use Rattle.sqs_formats.specs.Report.{ascending};
 ghost use Rattle.sim_report.specs.Ages.{EachOnce, ages_of, expanded};
-ghost use Rattle.sim_report.specs.Tally.{rank_in};
+ghost use Rattle.sim_report.specs.Figures.{rank_in};
 
 use std::alloc::{AllocError, Global};
 use std::marker::Model;

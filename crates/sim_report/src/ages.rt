@@ -1,6 +1,7 @@
 //! The ages at which messages were deleted.
-ghost use Rattle.std.specs.Prelude.{◌≡◌, IfOk, OnOk};
+ghost use Rattle.std.specs.Prelude.{◌≡◌, ◌≤◌, IfOk, OnOk};
 ghost use Rattle.sqs_formats.specs.Report.{ascending, put};
+ghost use Rattle.sim_report.specs.Figures.{rank_in};
 
 use crate::age_counts::AgeCounts;
 use std::alloc::{AllocError, Global};
@@ -75,6 +76,27 @@ impl Ages {
         self.counted = self.counted.merged(alloc, self.recent.as_slice())?;
         self.recent.clear();
         Ok(())
+    }
+
+    /// Forgets all ages.
+    pub(crate) fn clear(&mut self)
+        ensures { self.new ≡ [] }
+    {
+        self.counted = AgeCounts::new(*self.recent.allocator());
+        self.recent.clear();
+    }
+
+    /// The nearest rank: the least of the ages such that `percent` of 100 are at or below it.
+    ///
+    /// # Errors
+    ///
+    /// Those of `counted`.
+    pub(crate) fn nearest_rank(&self, percent: u64) -> Result<Option<u128>, AllocError>
+        requires { percent ≤ 100 }
+        ensures { IfOk result (λ age. age ≡ rank_in percent self.now) }
+    {
+        let all = self.counted(*self.recent.allocator())?;
+        Ok(all.nearest_rank(percent))
     }
 
     /// All ages, counted.

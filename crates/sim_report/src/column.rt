@@ -1,6 +1,7 @@
 //! What a row counts.
 ghost use Rattle.std.specs.Prelude.{◌≡◌};
 ghost use Rattle.sim_report.specs.Tally.{count_of};
+ghost use Rattle.sim_report.specs.Figures.{comes_in};
 ghost use Rattle.sqs_formats.specs.Report.{age_when, column, is_column};
 
 use sqs_message::{Detail, Row, RowAnswer, RowKind};
@@ -36,6 +37,13 @@ pub(crate) fn column_of(kind: RowKind, answer: RowAnswer) -> Option<u16>
         (RowKind::Arrive, RowAnswer::New) => Some(ARRIVALS),
         _ => None,
     }
+}
+
+/// Whether a row in this column brings a message into a queue.
+pub(crate) fn comes_in(column: Option<u16>) -> bool
+    ensures { result ≡ comes_in column }
+{
+    matches!(column, Some(SENDS | ARRIVALS))
 }
 
 // The age at which a row in this column deleted a message, in milliseconds.

@@ -22,6 +22,8 @@ pub(crate) const BY_MOVE: u16 = 4;
 pub enum Hold {
     /// A receive gave it a message.
     Takes,
+    /// Its poll waits, and it holds none.
+    Waits,
     /// It asked for messages, and holds none.
     Asks,
     /// It deleted a message, or failed to serve it.
@@ -103,6 +105,10 @@ fn counted_as(kind: RowKind, answer: RowAnswer) -> Option<u16>
         (RowKind::Receive, RowAnswer::Refused(_)) => 19,
         (RowKind::Delete, RowAnswer::Refused(_)) => 20,
         (RowKind::Change, RowAnswer::Refused(_)) => 21,
+        (RowKind::Start, RowAnswer::Ok) => 22,
+        (RowKind::Cancel, RowAnswer::Ok) => 23,
+        (RowKind::Start, RowAnswer::Refused(_)) => 24,
+        (RowKind::Cancel, RowAnswer::Refused(_)) => 25,
         _ => return None,
     };
     Some(place)
@@ -114,6 +120,7 @@ fn hold_of(kind: RowKind, answer: RowAnswer) -> Hold
 {
     match (kind, answer) {
         (RowKind::Receive, RowAnswer::Ok) => Hold::Takes,
+        (RowKind::Receive, RowAnswer::Wait) => Hold::Waits,
         (RowKind::Receive, _) => Hold::Asks,
         (RowKind::Delete | RowKind::Fail, _) => Hold::Settles,
         _ => Hold::Keeps,

@@ -1,14 +1,14 @@
 //! Figures of queues and actors over a stretch of a run.
-ghost use Rattle.std.specs.Prelude.{◌≡◌, ℕ, ◌∷◌, ◌++◌, [], flat_map, length, map, List, IfOk, OnOk};
+ghost use Rattle.std.specs.Prelude.{◌≡◌, ◌∷◌, ◌++◌, [], flat_map, length, map, List, IfOk, OnOk};
 ghost use Rattle.sqs_message.specs.declared.row.Row.{Row as TheRow};
 ghost use Rattle.sim_report.specs.Facts.{fact_of};
-ghost use Rattle.sim_report.specs.declared.stretch.Stretch.{Stretch as TheStretch};
 ghost use Rattle.sim_report.specs.Figured.{actor_records, actors_with, figured, figures_after, figures_with, fresh_actor, fresh_queue, queue_records, queue_with};
-ghost use Rattle.sim_report.specs.Figures.{figures_text};
+ghost use Rattle.sim_report.specs.Figures.{FiguresAsked, figures_text};
 ghost use Rattle.sqs_formats.specs.Rows.{lines};
 ghost use Rattle.sim_report.specs.Running.{changed};
 
 use crate::actor_figures::ActorFigures;
+use crate::asked::{QueueAsked, Wanted};
 use crate::fact::Fact;
 use crate::queue_figures::QueueFigures;
 use crate::stretch::Stretch;
@@ -20,7 +20,7 @@ use std::marker::Model;
 /// The figures of queues and actors over the rows of a run so far. The rows are not kept.
 #[derive(Drop)]
 pub struct Figures {
-    stretch: Stretch,
+    wanted: Wanted,
     of_queues: Vec<QueueFigures>,
     of_actors: Vec<ActorFigures>,
 }
@@ -30,22 +30,22 @@ impl Model for Figures {
 
     ghost Value = { FiguresState };
 
-    ghost view = { λ f. record { stretch = f.stretch; of_queues = f.of_queues.items; of_actors = f.of_actors.items } };
+    ghost view = { λ f. record { wanted = f.wanted; of_queues = f.of_queues.items; of_actors = f.of_actors.items } };
 }
 
 // Takes in what a row says, which counts in this place, at its queue, if that is one of these.
 fn take_at_queue(
     queues: &mut [QueueFigures],
     place: Option<u16>,
-    stretch: Stretch,
+    wanted: Wanted,
     fact: &Fact,
 ) -> Result<(), AllocError>
     ensures { OnOk result (queues.new
-        ≡ changed (queue_with place stretch fact.now) fact.now.count.queue queues.old) }
+        ≡ changed (queue_with place wanted fact.now) fact.now.count.queue queues.old) }
 {
     let queue = fact.count.queue as usize;
     if queue < queues.len() {
-        queues[queue].take(place, stretch, fact)?;
+        queues[queue].take(place, wanted, fact)?;
     }
     Ok(())
 }
@@ -72,17 +72,17 @@ fn take_at_actor(
     Ok(())
 }
 
-// The figures of no rows over a stretch, of queues with these names.
+// The figures of no rows over a stretch, of these queues.
 fn fresh_queues(
     alloc: Global,
     stretch: Stretch,
-    names: Vec<Text>,
+    asked: Vec<QueueAsked>,
 ) -> Result<Vec<QueueFigures>, AllocError>
-    ensures { IfOk result (λ v. v.items ≡ map (fresh_queue stretch) names.items) }
+    ensures { IfOk result (λ v. v.items ≡ map (fresh_queue stretch) asked.items) }
 {
-    let mut queues = Vec::with_capacity(alloc, names.len())?;
-    for name in names {
-        queues.push(QueueFigures::new(alloc, stretch, name))?;
+    let mut queues = Vec::with_capacity(alloc, asked.len())?;
+    for queue in asked {
+        queues.push(QueueFigures::new(alloc, stretch, queue))?;
     }
     Ok(queues)
 }
@@ -93,18 +93,23 @@ fn fresh_actors(alloc: Global, names: Vec<Text>) -> Result<Vec<ActorFigures>, Al
 {
     let mut actors = Vec::with_capacity(alloc, names.len())?;
     for name in names {
-        actors.push(ActorFigures::new(name))?;
+        actors.push(ActorFigures::new(alloc, name))?;
     }
     Ok(actors)
 }
 
 // Adds the lines of the figures of queues.
-fn add_queues(alloc: Global, text: &mut Lines, queues: &[QueueFigures]) -> Result<(), AllocError>
+fn add_queues(
+    alloc: Global,
+    text: &mut Lines,
+    wanted: Wanted,
+    queues: &[QueueFigures],
+) -> Result<(), AllocError>
     ensures { OnOk result (text.new
-        ≡ text.old ++ lines (flat_map queue_records queues.now)) }
+        ≡ text.old ++ lines (flat_map (queue_records wanted) queues.now)) }
 {
     for queue in queues {
-        queue.write(alloc, text)?;
+        queue.write(alloc, wanted, text)?;
     }
     Ok(())
 }
@@ -126,23 +131,24 @@ fn add_actors(
 }
 
 impl Figures {
-    /// The figures of no rows over a stretch of a run, of the queues and the actors with these
-    /// names; the queues are the first agents, and the actors the next.
+    /// The figures of no rows of a run, of these queues and of the actors with these names; the
+    /// queues are the first agents, and the actors the next.
     ///
     /// # Errors
     ///
     /// `AllocError` if a growth is refused.
     pub fn new(
         alloc: Global,
-        stretch: Stretch,
-        queues: Vec<Text>,
+        wanted: Wanted,
+        queues: Vec<QueueAsked>,
         actors: Vec<Text>,
     ) -> Result<Figures, AllocError>
-        ensures { IfOk result (λ f. f ≡ figured queues.items actors.items stretch []) }
+        ensures { IfOk result (λ f. f ≡ figured
+            (record { queues = queues.items; actors = actors.items; wanted = wanted }) []) }
     {
         Ok(Figures {
-            stretch,
-            of_queues: fresh_queues(alloc, stretch, queues)?,
+            wanted,
+            of_queues: fresh_queues(alloc, wanted.stretch, queues)?,
             of_actors: fresh_actors(alloc, actors)?,
         })
     }
@@ -156,14 +162,15 @@ impl Figures {
     pub fn take(&mut self, fact: &Fact) -> Result<(), AllocError>
         ensures { OnOk result (self.new ≡ figures_with fact.now self.old) }
     {
-        if self.stretch.until <= fact.at {
+        let wanted = self.wanted;
+        if wanted.stretch.until <= fact.at {
             return Ok(());
         }
         let queues = self.of_queues.len();
         let place = fact.place_in(queues);
-        let stretch = self.stretch;
-        take_at_queue(self.of_queues.as_mut_slice(), place, stretch, fact)?;
-        take_at_actor(self.of_actors.as_mut_slice(), queues, place, stretch, fact)
+        take_at_queue(self.of_queues.as_mut_slice(), place, wanted, fact)?;
+        let actors = self.of_actors.as_mut_slice();
+        take_at_actor(actors, queues, place, wanted.stretch, fact)
     }
 
     /// Takes in what rows say, one after another.
@@ -186,14 +193,14 @@ impl Figures {
     ///
     /// `AllocError` if a growth is refused.
     pub fn text(&self, alloc: Global) -> Result<Vec<u8>, AllocError>
-        ensures { (queues actors : List (List ℕ)) (s : TheStretch) (rows : List TheRow)
-            → self.now ≡ figured queues actors s rows
-            → IfOk result (λ v. v.items ≡ figures_text queues actors s rows) }
+        ensures { (asked : FiguresAsked) (rows : List TheRow) → self.now ≡ figured asked rows
+            → IfOk result (λ v. v.items ≡ figures_text asked rows) }
     {
         let mut text = Lines::new(alloc);
         text.add(&[b"figure", b"of", b"name", b"value"])?;
-        add_queues(alloc, &mut text, self.of_queues.as_slice())?;
-        add_actors(alloc, &mut text, self.stretch, self.of_actors.as_slice())?;
+        add_queues(alloc, &mut text, self.wanted, self.of_queues.as_slice())?;
+        let stretch = self.wanted.stretch;
+        add_actors(alloc, &mut text, stretch, self.of_actors.as_slice())?;
         text.into_bytes()
     }
 }

@@ -37,7 +37,7 @@ impl Held {
                 number: 1,
                 receiving: true,
             }),
-            Hold::Asks => Ok(NOTHING),
+            Hold::Waits | Hold::Asks => Ok(NOTHING),
             Hold::Settles => Ok(Held {
                 number: self.number.saturating_sub(1),
                 receiving: false,

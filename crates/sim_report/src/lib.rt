@@ -3,7 +3,10 @@
 
 mod actor_figures;
 mod age_counts;
+mod aged;
 mod ages;
+mod asked;
+mod backlogs;
 mod column;
 mod columns;
 mod comparison;
@@ -11,19 +14,24 @@ mod fact;
 mod figure;
 mod figures;
 mod held;
+mod lasting;
 mod left;
 mod level;
 mod number;
 mod numbers;
 mod peak;
+mod polls;
 mod queue;
 mod queue_figures;
 mod report;
 mod stretch;
 mod tally;
+mod there;
 mod tries;
+mod windows;
 mod writing;
 
+pub use asked::{QueueAsked, Wanted};
 pub use column::RowCount;
 pub use fact::{Fact, Flight, Hold};
 pub use figures::Figures;

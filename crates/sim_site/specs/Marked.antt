@@ -24,12 +24,12 @@ brought_up (Some place) actors = record actors { marks = set actors.marks place 
 abbrev pub IsFirst : List ℕ → ℕ → Type 0
 IsFirst numbers place = position (λ n. n == get_or numbers place 0) numbers ≡ Some place
 
--- actors with the marks of their wakes, except that of the one called last; one is found by its number if the numbers
--- are known not to fall, and at once if it was called last
-pub record AreFound (actors : Marked Actor) (is_in_order : Bool) (told : Option ℕ) : Type 0 where
+-- actors with the marks of their wakes, unless they are few, except that of the one called last; one is found by its
+-- number if the numbers are known not to fall, and at once if it was called last
+pub record AreFound (actors : Marked Actor) (is_in_order : Bool) (are_few : Bool) (told : Option ℕ) : Type 0 where
   pub order : is_in_order ≡ true → IsNonDecreasingBy (λ (a : Actor). a.number) actors.values
   pub first : IfSome told (IsFirst (map (λ (a : Actor). a.number) actors.values))
-  pub marked : AreMarked wake_mark (brought_up told actors)
+  pub marked : are_few ≡ false → AreMarked wake_mark (brought_up told actors)
 
 -- what is kept of a place at which a poll may wait: its end
 abbrev pub end_mark : Option Poll → Mark
@@ -64,10 +64,14 @@ pub record LeavesOne (places : List (Option Poll)) (place : ℕ) : Type 0 where
   pub within : place < length places
   pub one : length (waiting places) ≡ suc (length (waiting (set places place None)))
 
--- actors that are as before, all marked with their wakes but for the one that is called next
-pub record AreTurnedTo (place : ℕ) (old new : Marked Actor) : Type 0 where
+-- if all actors but the one at a place are marked with their wakes, they still are
+abbrev pub StayMarkedBut : ℕ → Marked Actor → Marked Actor → Type 0
+StayMarkedBut place old new = AreMarked wake_mark (brought_up (Some place) old) → AreMarked wake_mark (brought_up (Some place) new)
+
+-- actors that are as before, all marked with their wakes but for the one that is called next, unless they are few
+pub record AreTurnedTo (are_few : Bool) (place : ℕ) (old new : Marked Actor) : Type 0 where
   pub values : new.values ≡ old.values
-  pub marked : AreMarked wake_mark (brought_up (Some place) new)
+  pub marked : are_few ≡ false → AreMarked wake_mark (brought_up (Some place) new)
 
 -- the polls that wait at marked places
 abbrev pub polls_at : Marked (Option Poll) → List Poll

@@ -1,5 +1,5 @@
 //! The actors of a site; if there are many, with a tree of their wakes.
-ghost use Rattle.std.specs.Prelude.{All, IfErr, IfOk, IfSome, MatchOption, Some, flat_map, length, map, position, true, ◌<◌, ◌≡◌, ◌≤◌};
+ghost use Rattle.std.specs.Prelude.{All, IfErr, IfOk, IfSome, MatchOption, Some, false, flat_map, length, map, position, true, ◌<◌, ◌≡◌, ◌≤◌};
 ghost use Rattle.std.specs.List.Sorted.{IsNonDecreasingBy};
 ghost use Rattle.sim_actor.specs.Lives.{answer_of};
 ghost use Rattle.sim_clock.specs.Order.{least};
@@ -11,10 +11,11 @@ ghost use Rattle.sqs_model.specs.Site.{is_actor};
 ghost use Rattle.sim_engine.specs.Limits.{StopsWhere};
 ghost use Rattle.sim_site.specs.Kept.{HasShortWaits, IsCount, WaitsShortly};
 ghost use Rattle.sim_index.specs.Marked.{AreMarked};
-ghost use Rattle.sim_site.specs.Marked.{AreTurnedTo, brought_up, wake_mark};
+ghost use Rattle.sim_site.specs.Marked.{AreTurnedTo, StayMarkedBut, brought_up, wake_mark};
 ghost use Rattle.sim_site.specs.Turns.{HasAllPolls, PassesTurn, Polled, Turned, TurnedBy};
 
 use crate::agents::wake_of;
+use crate::dues::least_wake_of;
 use sim_actor::{Actor, FollowUp, Reply};
 use sim_clock::{Key, Refusal};
 use sim_index::{Mark, MarkedList};
@@ -110,13 +111,14 @@ fn bring_up(actors: &mut MarkedList<Actor>, told: Option<usize>)
     }
 }
 
-// Updates all marks but that of the actor at `place`, which is called next.
-fn turn_to(actors: &mut MarkedList<Actor>, told: Option<usize>, place: usize)
+// Updates all marks but that of the actor at `place`, which is called next. Marks of few actors are
+// not kept.
+fn turn_to(actors: &mut MarkedList<Actor>, are_few: bool, told: Option<usize>, place: usize)
     requires told { IfSome told (λ place. place < length actors.old.values) }
-    requires marked { AreMarked wake_mark (brought_up told actors.old) }
-    ensures { AreTurnedTo place actors.old actors.new }
+    requires marked { are_few ≡ false → AreMarked wake_mark (brought_up told actors.old) }
+    ensures { AreTurnedTo are_few place actors.old actors.new }
 {
-    if told != Some(place) {
+    if !are_few && told != Some(place) {
         bring_up(actors, told);
     }
 }
@@ -131,13 +133,12 @@ fn answered_at(
 ) -> Result<FollowUp, Refusal>
     requires place { Stands (is_actor number) actors.old.values place }
     requires moment { now ≤ most_count }
-    requires marked { AreMarked wake_mark (brought_up (Some place) actors.old) }
     ensures turned { IfOk result (TurnedBy number now reply actors.old.values actors.new.values) }
     ensures settings { map (λ a. a.settings) actors.new.values
         ≡ map (λ a. a.settings) actors.old.values }
     ensures stops { IfErr result (StopsWhere (PassesTurn number now
         (answer_of reply) actors.old.values)) }
-    ensures marked { AreMarked wake_mark (brought_up (Some place) actors.new) }
+    ensures marked { StayMarkedBut place actors.old actors.new }
     ensures numbers { map (λ a. a.number) actors.new.values
         ≡ map (λ a. a.number) actors.old.values }
 {
@@ -175,13 +176,19 @@ fn greatest_of(actors: &[Actor]) -> u64
     most
 }
 
+// So many actors are looked at one by one in less time than a tree of their wakes takes.
+const FEW: usize = 6;
+
 /// The actors of a site. The next wake is at hand. A change of one actor takes time logarithmic in
 /// their number, and so does a search by number if the numbers never fall. An actor that is called
-/// several times in a row is searched for and marked once. Contracts see the actors as a list.
+/// several times in a row is searched for and marked once. Few actors have no marks: their wakes are
+/// looked at one by one. Contracts see the actors as a list.
 #[derive(Drop)]
 pub struct Actors {
     list: MarkedList<Actor>,
     is_in_order: bool,
+    // Whether they are so few that their marks are not kept.
+    are_few: bool,
     // The index of the actor that was called last, whose mark is not updated yet, if there is one.
     told: Option<usize>,
 }
@@ -195,7 +202,7 @@ impl Model for Actors {
 
     ghost view = { λ a. a.list.values };
 
-    ghost invariant = { λ a. AreFound a.list a.is_in_order a.told };
+    ghost invariant = { λ a. AreFound a.list a.is_in_order a.are_few a.told };
 }
 
 impl Actors {
@@ -204,10 +211,12 @@ impl Actors {
         ensures { IfOk result (λ actors. actors ≡ list.items) }
     {
         let is_in_order = are_in_order(&list);
+        let are_few = list.len() <= FEW;
         let list = marked(alloc, list)?;
         Ok(Actors {
             list,
             is_in_order,
+            are_few,
             told: None,
         })
     }
@@ -226,7 +235,7 @@ impl Actors {
         ensures { MatchOption result (IsAbsent (is_actor number) self.now)
             (Stands (is_actor number) self.now) }
     {
-        if self.is_in_order {
+        if self.is_in_order && !self.are_few {
             found_in_order(&self.list, number)
         } else {
             first_actor(self.list.values(), number)
@@ -262,7 +271,7 @@ impl Actors {
             → IfOk result WaitsShortly }
         ensures stops { IfErr result (StopsWhere (PassesTurn number now Answer.Wake self.old)) }
     {
-        turn_to(&mut self.list, self.told, place);
+        turn_to(&mut self.list, self.are_few, self.told, place);
         self.told = Some(place);
         self.list.value_mut(place).woken(now)
     }
@@ -286,7 +295,7 @@ impl Actors {
         ensures stops { IfErr result (StopsWhere (PassesTurn number now
             (answer_of reply) self.old)) }
     {
-        turn_to(&mut self.list, self.told, place);
+        turn_to(&mut self.list, self.are_few, self.told, place);
         self.told = Some(place);
         answered_at(&mut self.list, place, number, now, reply)
     }
@@ -307,6 +316,9 @@ impl Actors {
         ensures wake { result ≡ least (flat_map actor_dues self.old) }
         ensures same { self.new ≡ self.old }
     {
+        if self.are_few {
+            return least_wake_of(self.list.values());
+        }
         bring_up(&mut self.list, self.told);
         self.told = None;
         self.list.least()

@@ -1,4 +1,4 @@
-//! The lesser of two keys, and the next step of a site's tasks.
+//! The lesser of two keys, the next wake of some actors, and the next step of a site's tasks.
 ghost use Rattle.std.specs.Prelude.{◌≡◌, flat_map};
 ghost use Rattle.sim_clock.specs.Order.{least, lesser as the_lesser};
 ghost use Rattle.sqs_model.specs.Dues.{actor_dues, task_dues};
@@ -20,6 +20,17 @@ pub fn take_lesser(best: &mut Option<Key>, other: Option<Key>)
         }
     }
     *best = other;
+}
+
+/// The key of the least wake of some actors.
+pub fn least_wake_of(actors: &[Actor]) -> Option<Key>
+    ensures { result ≡ least (flat_map actor_dues actors.now) }
+{
+    let mut best = None;
+    for i in (0..actors.len()).rev() {
+        best = lesser(wake_of(&actors[i]), best);
+    }
+    best
 }
 
 /// The key of the least step of the running tasks.

@@ -100,7 +100,7 @@ fn run_sparse<S: Site, K: RowSink<S::Row>>(
 }
 
 /// Begins the run of a world on this thread. Each step handles the least entry of the whole world.
-/// It goes on to the horizon, or until rounds of partitions would pay: two stretches of time one
+/// It goes on to the horizon, or until rounds of partitions would pay: eight stretches of time one
 /// after another, each as long as the least latency of all ways, have made 1,024 rows each. The
 /// rows go to the sink once at least 64 of them wait, and before this returns. Returns the world to
 /// which the run has come, from which it may go on.

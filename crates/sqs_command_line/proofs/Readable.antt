@@ -92,7 +92,7 @@ abbrev run_built : Shape
 run_built = head (built program).subs
 
 run_owns : Each (IsOwn run_built.rules) run_built.rules
-run_owns = (refl, (refl, (refl, (refl, (refl, (refl, (refl, (refl, (refl, (refl, (refl, (refl, (refl, tt)))))))))))))
+run_owns = (refl, (refl, (refl, (refl, (refl, (refl, (refl, (refl, (refl, (refl, (refl, (refl, (refl, (refl, (refl, tt)))))))))))))))
 
 run_reads : (words : List Text) → level_fault run_built [] nothing_held words false [] ≡ [] → IsReadable (rows_at run_built words)
 run_reads words e =
@@ -107,6 +107,8 @@ run_reads words e =
         number_read 32 run_built.rules rows (codes "workers") _ passed refl number,
         number_read 64 run_built.rules rows (codes "from") _ passed refl (λ t h. let a = accepts-Accepts false (parsers.Unsigned 0 18446744073709551615) t h in (a.0, a.1)),
         number_read 64 run_built.rules rows (codes "to") _ passed refl (λ t h. let a = accepts-Accepts false (parsers.Unsigned 0 18446744073709551615) t h in (a.0, a.1)),
+        number_read 64 run_built.rules rows (codes "backlog") _ passed refl (λ t h. let a = accepts-Accepts false (parsers.Unsigned 0 18446744073709551615) t h in (a.0, a.1)),
+        number_read 64 run_built.rules rows (codes "window-figures") _ passed refl (λ t h. let a = accepts-Accepts false (parsers.Unsigned 1 18446744073709551615) t h in (a.0, a.1)),
       ),
     )
 

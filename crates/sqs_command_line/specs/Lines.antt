@@ -47,6 +47,8 @@ pub record IsRun (rows : List Row) (l : RunLine) : Type 0 where
   pub figures : IsFlag (one_of (codes "figures") rows) l.figures
   pub from : l.from ≡ number_of (one_of (codes "from") rows)
   pub to : l.to ≡ number_of (one_of (codes "to") rows)
+  pub backlog : l.backlog ≡ number_of (one_of (codes "backlog") rows)
+  pub window_figures : l.window_figures ≡ number_of (one_of (codes "window-figures") rows)
   pub preview : IsFlag (one_of (codes "preview") rows) l.preview
   pub quiet : IsFlag (one_of (codes "quiet") rows) l.quiet
   pub scenario : told l.scenario ≡ first_of (codes "scenario") rows
@@ -69,6 +71,7 @@ abbrev pub HasNumbers : List Row → Type 0
 HasNumbers rows =
     IsNumber 64 (one_of (codes "window") rows) × IsNumber 32 (one_of (codes "parts") rows) × IsNumber 32 (one_of (codes "workers") rows)
     × IsNumber 64 (one_of (codes "from") rows) × IsNumber 64 (one_of (codes "to") rows)
+    × IsNumber 64 (one_of (codes "backlog") rows) × IsNumber 64 (one_of (codes "window-figures") rows)
 
 -- a line by the subcommand's name and its arguments
 abbrev pub IsLine : Text → List Row → Line → Type 0

@@ -41,13 +41,17 @@ run_files = with_rule (with_rule run_options (option_rule (codes "log"))) (optio
 abbrev pub run_figures : App
 run_figures = with_rule (with_rule (with_rule run_files (flag_rule (codes "figures"))) (moment_rule (codes "from"))) (moment_rule (codes "to"))
 
+-- .. [--backlog N] [--window-figures MS]
+abbrev pub run_wanted : App
+run_wanted = with_rule (with_rule run_figures (moment_rule (codes "backlog"))) (time_rule (codes "window-figures"))
+
 -- .. [--preview]
 abbrev pub with_preview : App → App
 with_preview app = with_rule app (flag_rule (codes "preview"))
 
 -- .. [--preview] [--quiet] [SCENARIO]
 abbrev pub run_app : App
-run_app = with_rule (with_rule (with_preview run_figures) (flag_rule (codes "quiet"))) (place_rule false (codes "scenario"))
+run_app = with_rule (with_rule (with_preview run_wanted) (flag_rule (codes "quiet"))) (place_rule false (codes "scenario"))
 
 -- check [--scripts DIR] [--preview] [SCENARIO]
 abbrev pub check_app : App

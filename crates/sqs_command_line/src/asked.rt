@@ -21,6 +21,10 @@ pub struct RunLine<'a> {
     pub from: Option<u64>,
     /// The last one, in milliseconds.
     pub to: Option<u64>,
+    /// How many messages that wait are no backlog yet.
+    pub backlog: Option<u64>,
+    /// How long the windows of the figures are, in milliseconds.
+    pub window_figures: Option<u64>,
     /// Whether version 3 of scenarios is read, too.
     pub preview: bool,
     /// Whether no progress is shown.

@@ -2,7 +2,7 @@
 ghost use Rattle.std.specs.Prelude.{◌≡◌, IfOk, false};
 ghost use Rattle.clap.specs.Words.{app_of, new_app, rule_of};
 ghost use Rattle.clap.specs.declared.builder.command.Command.TheViews.{out-Command as fields_of};
-ghost use Rattle.sqs_command_line.specs.Programs.{check_app, compare_app, flag_rule, moment_rule, number_rule, option_rule, place_rule, program, run_app, run_figures, run_files, run_options, time_rule};
+ghost use Rattle.sqs_command_line.specs.Programs.{check_app, compare_app, flag_rule, moment_rule, number_rule, option_rule, place_rule, program, run_app, run_figures, run_files, run_options, run_wanted, time_rule};
 
 use clap::{Arg, ArgAction, Command};
 use std::alloc::{AllocError, Global};
@@ -19,8 +19,8 @@ const SCENARIO_HELP: &str = "The scenario's file [default: standard input]";
 /// The text below the help of `run`.
 const RUN_HELP: &str =
     "Reads a scenario (TOML) and the scripts that it names (CSV). Writes the log, the final queues and
-the report (CSV), in this order, to standard output, and with --figures, --from or --to figures behind
-them. A fault is one line on standard error.
+the report (CSV), in this order, to standard output, and with --figures or an option of theirs figures
+behind them. A fault is one line on standard error.
 
 Status:
   0  done
@@ -170,7 +170,7 @@ fn run_files<'a>(alloc: Global) -> Result<Command<'a>, AllocError>
     Ok(command)
 }
 
-// The command `run`, also with the options of its figures.
+// The command `run`, also with the stretch of its figures.
 fn run_figures<'a>(alloc: Global) -> Result<Command<'a>, AllocError>
     ensures app { IfOk result (λ c. app_of c ≡ run_figures) }
     ensures local { IfOk result (λ c. (fields_of c).has_globals ≡ false) }
@@ -190,12 +190,31 @@ fn run_figures<'a>(alloc: Global) -> Result<Command<'a>, AllocError>
     Ok(command)
 }
 
+// The command `run`, also with what else is wanted of its figures.
+fn run_wanted<'a>(alloc: Global) -> Result<Command<'a>, AllocError>
+    ensures app { IfOk result (λ c. app_of c ≡ run_wanted) }
+    ensures local { IfOk result (λ c. (fields_of c).has_globals ≡ false) }
+{
+    let command = run_figures(alloc)?;
+    let command = command.arg(moment(
+        alloc,
+        "backlog",
+        "More messages than these that wait are a backlog [default: 10]",
+    ))?;
+    let command = command.arg(time(
+        alloc,
+        "window-figures",
+        "How long the windows of the figures are, in milliseconds [default: 300000]",
+    ))?;
+    Ok(command)
+}
+
 // The command `run`.
 fn run_command<'a>(alloc: Global) -> Result<Command<'a>, AllocError>
     ensures app { IfOk result (λ c. app_of c ≡ run_app) }
     ensures local { IfOk result (λ c. (fields_of c).has_globals ≡ false) }
 {
-    let command = run_figures(alloc)?;
+    let command = run_wanted(alloc)?;
     let command = command.arg(flag(alloc, "preview", PREVIEW_HELP))?;
     let command = command.arg(flag(alloc, "quiet", "Show no progress, even on a terminal"))?;
     let command = command.arg(place(alloc, "scenario", false, SCENARIO_HELP))?;

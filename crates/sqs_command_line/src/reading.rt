@@ -43,6 +43,8 @@ fn run_line<'a>(matches: &ArgMatches<'a>) -> Result<RunLine<'a>, Unread>
     let workers = number(matches, "workers")?;
     let from = time(matches, "from")?;
     let to = time(matches, "to")?;
+    let backlog = time(matches, "backlog")?;
+    let window_figures = time(matches, "window-figures")?;
     Ok(RunLine {
         window,
         parts,
@@ -53,6 +55,8 @@ fn run_line<'a>(matches: &ArgMatches<'a>) -> Result<RunLine<'a>, Unread>
         figures: matches.get_flag("figures"),
         from,
         to,
+        backlog,
+        window_figures,
         preview: matches.get_flag("preview"),
         quiet: matches.get_flag("quiet"),
         scenario: matches.get_str("scenario"),

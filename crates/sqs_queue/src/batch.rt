@@ -6,11 +6,11 @@ ghost use Rattle.sqs_queue.specs.Picked.{picked};
 ghost use Rattle.sqs_queue.specs.Calls.{HasAllReceives};
 
 use sim_clock::Refusal;
-use sqs_message::{Message, MessageId, Receipt, Text};
+use sqs_message::{Body, Message, MessageId, Receipt, Text};
 use sqs_messages::MessageTable;
 use sqs_model::MOST_COUNT;
 use sqs_redrive::Got;
-use std::alloc::{AllocError, Global};
+use std::alloc::Global;
 
 /// The messages that a receive gives, and the cost of choosing them.
 #[derive(Drop)]
@@ -23,14 +23,16 @@ pub struct Received {
     pub looked: u64,
 }
 
-// What a receive returns for a message, before it gives the message.
-fn told_of(alloc: Global, site: u32, message: &Message) -> Result<Got, AllocError>
-    requires { message.now.receives < most_count }
-    ensures { IfOk result (λ got. got ≡ told_of site message.now) }
+// What a receive returns for a message, before it gives the message, with copies of its group and
+// its body.
+#[inline(always)]
+fn told_of(site: u32, message: &Message, group: Option<Text>, body: Body) -> Got
+    requires below { message.now.receives < most_count }
+    requires group { group ≡ message.now.group }
+    requires body { body ≡ message.now.body }
+    ensures { result ≡ told_of site message.now }
 {
-    let group = Text::copy_of(alloc, message.group.as_ref())?;
-    let body = message.body.copy()?;
-    Ok(Got {
+    Got {
         id: MessageId {
             site,
             number: message.number,
@@ -44,7 +46,7 @@ fn told_of(alloc: Global, site: u32, message: &Message) -> Result<Got, AllocErro
         group,
         body,
         left: None,
-    })
+    }
 }
 
 // What a receive returns for the messages with these numbers. `CountLimit` if the receive count of
@@ -70,7 +72,10 @@ pub fn batch_of(
             if message.receives == MOST_COUNT {
                 return Err(Refusal::CountLimit);
             }
-            batch.push(told_of(alloc, site, message)?)?;
+            let group = Text::copy_of(alloc, message.group.as_ref())?;
+            let body = message.body.copy()?;
+            // There is room for all of them, so each is made where it stays.
+            batch.push_reserved(told_of(site, message, group, body));
         }
     }
     Ok(batch)

@@ -12,3 +12,4 @@ pub mod Prefixes
 pub mod PrintedRows
 pub mod PrintedRuns
 pub mod Counters
+pub mod Asking

@@ -5,7 +5,7 @@ use Rattle.sim_clock.specs.declared.refusal.Refusal.{Refusal}
 use Rattle.sim_records.proofs.Writes.{several_after, several_handed_on, several_stopped}
 use Rattle.sim_records.specs.Writes.{WriterState, WroteSeveral}
 use Rattle.sim_report.specs.Reports.{figures_if}
-use Rattle.sim_report.specs.declared.stretch.Stretch.{Stretch}
+use Rattle.sim_report.specs.declared.asked.Wanted.{Wanted}
 use Rattle.sqs_formats.specs.Output.{ending_of}
 use Rattle.sqs_model.specs.Run.{Run}
 use Rattle.sqs_model.specs.Scenario.{Scenario}
@@ -28,6 +28,6 @@ pub flushed : (a b c : WriterState) (xs : List ℕ) (u : Unit {0}) (r : Result (
 flushed a b c xs u r p q = subst (λ (t : List ℕ). WroteSeveral a c t r) (append-nil xs) (several_after a b c xs [] r p.0 q)
 
 -- the ending without figures, and then those that are wanted
-pub ending-parts : (s : Scenario) (figures : Option Stretch) (r : Run) → ending_of s r ++ figures_if (asked_of s figures) r.rows ≡ ending_with s figures r
+pub ending-parts : (s : Scenario) (figures : Option Wanted) (r : Run) → ending_of s r ++ figures_if (asked_of s figures) r.rows ≡ ending_with s figures r
 ending-parts s None r = append-nil (ending_of s r)
-ending-parts s (Some stretch) r = refl
+ending-parts s (Some wanted) r = refl

@@ -2,19 +2,19 @@
 use Rattle.std.specs.List.{range_with_len}
 use Rattle.std.specs.Prelude.{Bool, List, None, Option, Some, fold, if◌then◌else◌, length, map, max, nat_le, nat_lt, unwrap_or, ℕ, ◌%◌, ◌&&◌, ◌+◌}
 use Rattle.sim_clock.specs.declared.refusal.Refusal.{Refusal}
-use Rattle.sim_report.specs.declared.stretch.Stretch.{Stretch}
+use Rattle.sim_report.specs.declared.asked.Wanted.{Wanted}
 use Rattle.sim_exchange.specs.Layout.{Layout, is_layout}
 use Rattle.sqs_model.specs.Scenario.{Scenario, least_latency}
 use Rattle.sim_clock.specs.declared.refusal.Refusal.TheVariants as refusals
 
 -- the options: the window in milliseconds, the number of partitions, the partition of each queue, the number of
--- workers, and the stretch of which figures are wanted
+-- workers, and what is wanted of figures, if they are
 pub record Options : Type 0 where
   pub window : Option ℕ
   pub parts : Option ℕ
   pub map : Option (List ℕ)
   pub workers : ℕ
-  pub figures : Option Stretch
+  pub figures : Option Wanted
 
 -- those of a run on one list, without figures
 abbrev pub unsplit : Options

@@ -2,7 +2,7 @@
 use Rattle.std.specs.Prelude.{List, None, Option, ℕ, ◌≡◌, Result, []}
 use Rattle.sim_clock.specs.declared.refusal.Refusal.{Refusal}
 use Rattle.sim_report.specs.Reports.{Counts, running}
-use Rattle.sim_report.specs.declared.stretch.Stretch.{Stretch}
+use Rattle.sim_report.specs.declared.asked.Wanted.{Wanted}
 use Rattle.sim_engine.specs.Limits.{StopsWhere}
 use Rattle.sqs_model.specs.Finals.{finals_of}
 use Rattle.sqs_model.specs.Limits.{IsOver}
@@ -14,7 +14,7 @@ use Rattle.sqs_rehearsal.specs.Asked.{asked_of}
 use Rattle.sqs_rehearsal.specs.declared.outcome.Outcome.{Outcome}
 use Rattle.sqs_rehearsal.specs.Left.{Wrote}
 use Rattle.sqs_rehearsal.specs.Writers.{Writer}
-use Rattle.sqs_rehearsal.specs.Endings.{actor_names, in_run}
+use Rattle.sqs_rehearsal.specs.Endings.{figures_of}
 use Rattle.sim_report.specs.Figured.{figured, FiguresState}
 use Rattle.sqs_formats.specs.Comparison.{comparison}
 
@@ -45,9 +45,9 @@ Stops s = StopsWhere (IsOver s)
 
 -- what holds of a scenario and its run, by its names, the counts of its rows with the figures that were asked for, and
 -- the sites that are left
-abbrev pub OfEnd : List (List ℕ) → Counts → List Site → (Scenario → Run → Option Stretch → Type 0) → Type 0
+abbrev pub OfEnd : List (List ℕ) → Counts → List Site → (Scenario → Run → Option Wanted → Type 0) → Type 0
 OfEnd names counts sites P =
-    (s : Scenario) (r : Run) (figures : Option Stretch)
+    (s : Scenario) (r : Run) (figures : Option Wanted)
     → names ≡ s.names → counts ≡ running (asked_of s figures) r.rows → sites ≡ r.sites → P s r figures
 
 -- what holds of two scenarios and their runs, which leave these outcomes
@@ -55,13 +55,13 @@ abbrev pub OfBoth : Outcome → Outcome → (Scenario → Run → Scenario → R
 OfBoth first second P = (s t : Scenario) (r u : Run) → IsLeftBy s r first → IsLeftBy t u second → P s r t u
 
 -- a text that a scenario and its run give is written at the end of the run
-abbrev pub WroteEnd : (Scenario → Option Stretch → Run → List ℕ) → List (List ℕ) → Counts → List Site → Writer → Result (Unit {0}) Refusal → Type 0
+abbrev pub WroteEnd : (Scenario → Option Wanted → Run → List ℕ) → List (List ℕ) → Counts → List Site → Writer → Result (Unit {0}) Refusal → Type 0
 WroteEnd text names counts sites w result = OfEnd names counts sites (λ s r figures. Wrote w (text s figures r) result)
 
 -- the comparison of two outcomes is written
 abbrev pub WroteComparison : Outcome → Outcome → Writer → Result (Unit {0}) Refusal → Type 0
 WroteComparison first second w result = OfBoth first second (λ s r t u. Wrote w (comparison (report_of s r) (report_of t u)) result)
 
--- the figures of no rows of a scenario, over the part of a stretch that lies in its run
-abbrev pub no_figures : Scenario → Stretch → FiguresState
-no_figures s stretch = figured (queue_names s) (actor_names s) (in_run s stretch) []
+-- the figures of no rows of a scenario
+abbrev pub no_figures : Scenario → Wanted → FiguresState
+no_figures s wanted = figured (figures_of s wanted) []

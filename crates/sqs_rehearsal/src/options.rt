@@ -6,7 +6,7 @@ ghost use Rattle.sqs_rehearsal.specs.Splits.{IsUnsplit, split_of, unless, can_la
 
 use sim_clock::Refusal;
 use sim_exchange::PartMap;
-use sim_report::Stretch;
+use sim_report::Wanted;
 use sim_scenario::{Scenario, least_latency};
 use std::alloc::{AllocError, Global};
 use std::marker::Model;
@@ -24,8 +24,8 @@ pub struct Options {
     pub map: Option<Vec<u32>>,
     /// The number of workers, 1 to 64.
     pub workers: u32,
-    /// The stretch of time over which figures are written behind the report, if they are wanted.
-    pub figures: Option<Stretch>,
+    /// What is wanted of the figures that are written behind the report, if they are wanted.
+    pub figures: Option<Wanted>,
 }
 
 impl Model for Options {

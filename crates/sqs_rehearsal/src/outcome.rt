@@ -1,9 +1,10 @@
 //! The outcome of the whole run of a scenario.
-ghost use Rattle.std.specs.Prelude.{◌≡◌, [], false, true, IfErr, IfOk, None, OnOk};
+ghost use Rattle.std.specs.Prelude.{◌≡◌, ◌≤◌, [], false, length, map, true, zip, IfErr, IfOk, None, OnOk};
 ghost use Rattle.sim_records.specs.Writes.{WroteSeveral};
 ghost use Rattle.sim_report.specs.Reports.{running};
 ghost use Rattle.sqs_formats.specs.Comparison.{comparison};
 ghost use Rattle.sqs_rehearsal.specs.Asked.{asked_of};
+ghost use Rattle.sqs_rehearsal.specs.Endings.{queue_asked};
 ghost use Rattle.sqs_rehearsal.specs.Outcomes.{HasCounted, IsOutcomeOf, Stops, WroteComparison, no_figures};
 ghost use Rattle.sqs_rehearsal.specs.Writers.{seen};
 
@@ -12,11 +13,12 @@ use crate::finals::finals_of;
 use crate::running::run_alone;
 use sim_clock::Refusal;
 use sim_records::Out;
-use sim_report::{Figures, Report, Stretch};
+use sim_report::{Figures, QueueAsked, Report, Stretch, Wanted};
 use sim_scenario::Scenario;
 use sim_site::Site;
 use sqs_message::Text;
 use sqs_model::Finals;
+use sqs_redrive::QueueSettings;
 use std::alloc::{AllocError, Global};
 
 /// The outcome of the whole run of a scenario: the report of its rows, and the state of its queues,
@@ -38,23 +40,47 @@ pub fn copies(alloc: Global, texts: &[Text]) -> Result<Vec<Text>, AllocError>
     Ok(copies)
 }
 
+// The queues with these names and settings, of which figures are wanted. It fails if memory runs
+// out.
+fn queues_asked(
+    alloc: Global,
+    names: &[Text],
+    settings: &[QueueSettings],
+) -> Result<Vec<QueueAsked>, AllocError>
+    requires { length names.now ≡ length settings.now }
+    ensures { IfOk result (λ v. v.items ≡ map queue_asked (zip names.now settings.now)) }
+{
+    let mut queues = Vec::with_capacity(alloc, settings.len())?;
+    for place in 0..settings.len() {
+        let name = names[place].copy(alloc)?;
+        let queue = &settings[place];
+        queues.push(QueueAsked {
+            name,
+            quota: queue.in_flight_limit,
+        })?;
+    }
+    Ok(queues)
+}
+
 // The figures of no rows of a scenario over the part of a stretch that lies in its run. It fails if
 // memory runs out.
-fn fresh_figures(
-    alloc: Global,
-    scenario: &Scenario,
-    stretch: Stretch,
-) -> Result<Figures, AllocError>
-    ensures { IfOk result (λ figures. figures ≡ no_figures scenario.now stretch) }
+fn fresh_figures(alloc: Global, scenario: &Scenario, wanted: Wanted) -> Result<Figures, AllocError>
+    ensures { IfOk result (λ figures. figures ≡ no_figures scenario.now wanted) }
 {
     let queues = scenario.queues().len();
-    let stretch = Stretch {
-        from: stretch.from,
-        until: stretch.until.min(scenario.horizon().saturating_add(1)),
+    let wanted = Wanted {
+        stretch: Stretch {
+            from: wanted.stretch.from,
+            until: wanted
+                .stretch
+                .until
+                .min(scenario.horizon().saturating_add(1)),
+        },
+        ..wanted
     };
-    let of_queues = copies(alloc, &scenario.names()[..queues])?;
+    let of_queues = queues_asked(alloc, &scenario.names()[..queues], scenario.queues())?;
     let of_actors = copies(alloc, &scenario.names()[queues..])?;
-    Figures::new(alloc, stretch, of_queues, of_actors)
+    Figures::new(alloc, wanted, of_queues, of_actors)
 }
 
 /// The report of no rows of a scenario, with figures over the part of a stretch that lies in its
@@ -62,13 +88,13 @@ fn fresh_figures(
 pub fn fresh_report(
     alloc: Global,
     scenario: &Scenario,
-    figures: Option<Stretch>,
+    figures: Option<Wanted>,
 ) -> Result<Report, AllocError>
     ensures { IfOk result (λ report. report ≡ running (asked_of scenario.now figures) []) }
 {
     let queues = scenario.queues().len();
     let figures = match figures {
-        Some(stretch) => Some(fresh_figures(alloc, scenario, stretch)?),
+        Some(wanted) => Some(fresh_figures(alloc, scenario, wanted)?),
         None => None,
     };
     let names = copies(alloc, &scenario.names()[..queues])?;

@@ -3,6 +3,7 @@ use Rattle.std.specs.Prelude.{Bool, List, None, Option, Some, [], cond, length, 
 use Rattle.std.specs.Char.{digit_value}
 use Rattle.std.specs.List.{list_all, slice_split}
 use Rattle.std.specs.Str.Parse.{digits_value, without_leading_plus}
+use Rattle.sim_report.specs.declared.asked.Wanted.{Wanted}
 use Rattle.sim_report.specs.declared.stretch.Stretch.{Stretch}
 use Rattle.sqs_command_line.specs.declared.asked.RunLine.{RunLine}
 use Rattle.sqs_rehearsal.specs.Options.{Options}
@@ -26,11 +27,22 @@ numbers_of (text ∷ rest) = option_and_then (λ n. option_map (λ ns. n ∷ ns)
 abbrev pub map_of : List ℕ → List ℕ
 map_of list = unwrap_or (numbers_of (slice_split (λ b. b == 44) list)) []
 
--- the stretch of which a command line asks for figures, by a word or by its first or last millisecond
-abbrev pub stretch_of : RunLine → Option Stretch
+-- the stretch of figures: from the first to the last millisecond that a command line gives
+abbrev pub stretch_of : RunLine → Stretch
 stretch_of line =
-    cond (line.figures || is_some line.from || is_some line.to)
-    (Some (record { from = unwrap_or line.from 0; until = min (unwrap_or line.to (2 ^ 64 - 1) + 1) (2 ^ 64 - 1) })) None
+    record { from = unwrap_or line.from 0; until = min (unwrap_or line.to (2 ^ 64 - 1) + 1) (2 ^ 64 - 1) }
+
+-- what a command line wants of figures, for which it asks by a word or by one of their options; more than ten messages
+-- that wait are a backlog, and a window has five minutes, unless it says otherwise
+abbrev pub wanted_of : RunLine → Option Wanted
+wanted_of line =
+    cond (line.figures || is_some line.from || is_some line.to || is_some line.backlog || is_some line.window_figures)
+    (Some (record {
+      stretch = stretch_of line;
+      backlog = unwrap_or line.backlog 10;
+      window = unwrap_or line.window_figures 300000;
+    }))
+    None
 
 -- the split of a command line: its numbers as they were read; one worker if it has no number of workers
 abbrev pub split_of : RunLine → Options
@@ -39,5 +51,5 @@ split_of line = record {
   parts = line.parts;
   map = option_map (λ list. map_of list.now) line.map;
   workers = unwrap_or line.workers 1;
-  figures = stretch_of line;
+  figures = wanted_of line;
 }

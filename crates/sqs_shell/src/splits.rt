@@ -1,9 +1,9 @@
 //! The split of a rehearsal, from its command line.
 ghost use Rattle.std.specs.Prelude.{◌==◌, ◌≡◌, [], IfOk, map, unwrap_or};
 ghost use Rattle.std.specs.List.{slice_split};
-ghost use Rattle.sqs_shell.specs.Splits.{map_of, number_of, numbers_of, split_of, stretch_of};
+ghost use Rattle.sqs_shell.specs.Splits.{map_of, number_of, numbers_of, split_of, wanted_of};
 
-use sim_report::Stretch;
+use sim_report::{Stretch, Wanted};
 use sqs_command_line::RunLine;
 use sqs_rehearsal::Options;
 use std::alloc::{AllocError, Global};
@@ -45,17 +45,30 @@ fn partitions(alloc: Global, list: &str) -> Result<Vec<u32>, AllocError>
     numbers(alloc, pieces.as_slice())
 }
 
-// The stretch of which a line asks for figures: from `from`, else from the beginning, to `to`, else
-// to the end. Either asks for figures, too.
-fn stretch(asked: RunLine<'_>) -> Option<Stretch>
-    ensures { result ≡ stretch_of asked.entry }
+// So many messages that are there and not in flight are no backlog, unless a line says otherwise.
+const BACKLOG: u64 = 10;
+
+// So long is a window of figures unless a line says otherwise, in milliseconds.
+const WINDOW: u64 = 300_000;
+
+// What a line wants of figures: from `from`, else from the beginning, to `to`, else to the end.
+// Each option of figures asks for them, too.
+fn wanted(asked: RunLine<'_>) -> Option<Wanted>
+    ensures { result ≡ wanted_of asked.entry }
 {
-    if !asked.figures && asked.from.is_none() && asked.to.is_none() {
+    let no_stretch = asked.from.is_none() && asked.to.is_none();
+    let no_more = asked.backlog.is_none() && asked.window_figures.is_none();
+    if !asked.figures && no_stretch && no_more {
         return None;
     }
-    Some(Stretch {
+    let stretch = Stretch {
         from: asked.from.unwrap_or(0),
         until: asked.to.unwrap_or(u64::MAX).saturating_add(1),
+    };
+    Some(Wanted {
+        stretch,
+        backlog: asked.backlog.unwrap_or(BACKLOG),
+        window: asked.window_figures.unwrap_or(WINDOW),
     })
 }
 
@@ -72,6 +85,6 @@ pub fn split(alloc: Global, asked: RunLine<'_>) -> Result<Options, AllocError>
         parts: asked.parts,
         map,
         workers: asked.workers.unwrap_or(1),
-        figures: stretch(asked),
+        figures: wanted(asked),
     })
 }

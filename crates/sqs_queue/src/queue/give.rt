@@ -93,6 +93,12 @@ impl Queue {
         ensures refused { IfErr result
             (λ refusal. (refusal ≡ Refusal.CountLimit) ⊎ (refusal ≡ Refusal.Memory)) }
     {
+        if !self.messages.has_available(hosts) {
+            return Ok(Received {
+                messages: Vec::new(self.alloc),
+                looked: 0,
+            });
+        }
         let choice = self.messages.first_numbers(hosts, most)?;
         let messages = batch_of(self.alloc, &self.messages, &choice.numbers)?;
         Ok(Received {

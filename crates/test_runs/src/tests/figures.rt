@@ -2,9 +2,9 @@
 //! queues `q` and `d`, whose numbers are 0 and 1, and the consumer `c`, 2. A producer, 3, and a task,
 //! 4, have no figures here.
 use crate::tests::same::same;
-use sim_clock::{Class, Key};
+use sim_clock::{Class, Key, Refusal};
 use sim_records::ToWriter;
-use sim_report::{Fact, Figures, Report, Stretch};
+use sim_report::{Fact, Figures, QueueAsked, Report, Stretch, Wanted};
 use sqs_message::{
     Detail, MessageId, Origin, Receipt, ReceiptHandle, Row, RowAnswer, RowKind, RowReceipt, Text,
 };
@@ -15,8 +15,9 @@ const NONE: Detail = Detail::Absent;
 
 /// The moment, queue, agent, kind, answer, message's number and detail of each row. Over the stretch
 /// from 10 to before 100, the consumer serves from 20 to 50 and from 60 to 70, and it still holds a
-/// message from 90 on. The messages 2 and 3 of `q` came by a move.
-const ROWS: [(u64, u32, u32, RowKind, RowAnswer, Option<u64>, Detail); 20] = [
+/// message from 90 on. The messages 2 and 3 of `q` came by a move. Two messages of `q`, which are as
+/// many as may be, are in flight from 20 to 50 and from 96 to 97.
+const ROWS: [(u64, u32, u32, RowKind, RowAnswer, Option<u64>, Detail); 22] = [
     (5, 0, 3, RowKind::Send, RowAnswer::New, Some(0), NONE),
     (10, 0, 3, RowKind::Send, RowAnswer::New, Some(1), NONE),
     (20, 0, 2, RowKind::Receive, RowAnswer::Ok, Some(0), NONE),
@@ -99,6 +100,24 @@ const ROWS: [(u64, u32, u32, RowKind, RowAnswer, Option<u64>, Detail); 20] = [
         Some(3),
         Detail::Age(12),
     ),
+    (
+        98,
+        0,
+        2,
+        RowKind::Start,
+        RowAnswer::Ok,
+        None,
+        Detail::Task(4),
+    ),
+    (
+        99,
+        0,
+        2,
+        RowKind::Cancel,
+        RowAnswer::Refused(Refusal::NoTask),
+        None,
+        Detail::Task(4),
+    ),
     (100, 0, 3, RowKind::Send, RowAnswer::New, Some(4), NONE),
     (
         120,
@@ -135,10 +154,29 @@ figure,q,refused_sends,0
 figure,q,refused_receives,0
 figure,q,refused_deletes,0
 figure,q,refused_changes,0
+figure,q,starts,1
+figure,q,cancels,0
+figure,q,refused_starts,0
+figure,q,refused_cancels,1
+figure,q,SendMessage,1
+figure,q,ReceiveMessage,5
+figure,q,DeleteMessage,3
+figure,q,ChangeMessageVisibility,0
+figure,q,StartMessageMoveTask,1
+figure,q,CancelMessageMoveTask,1
+figure,q,requests,11
+figure,q,refused_requests,1
 figure,q,depth_greatest,2
 figure,q,depth_greatest_at_ms,10
 figure,q,in_flight_greatest,2
 figure,q,in_flight_greatest_at_ms,20
+figure,q,oldest_age_greatest_ms,65
+figure,q,oldest_age_greatest_at_ms,70
+figure,q,left,1
+figure,q,left_in_flight,1
+figure,q,quota_ms,31
+figure,q,backlog_gone_at_ms,96
+figure,q,backlog_since_ms,
 figure,q,received_once,2
 figure,q,received_again,1
 figure,q,tries_sum,4
@@ -148,16 +186,22 @@ figure,q,age_p50_ms,40
 figure,q,age_p95_ms,65
 figure,q,age_p99_ms,65
 figure,q,age_greatest_ms,65
+figure,q,age_window_p95_ms,65
+figure,q,age_window_p95_at_ms,50
 figure,q,new_age_sum_ms,105
 figure,q,new_age_p50_ms,40
 figure,q,new_age_p95_ms,65
 figure,q,new_age_p99_ms,65
 figure,q,new_age_greatest_ms,65
+figure,q,new_age_window_p95_ms,65
+figure,q,new_age_window_p95_at_ms,50
 figure,q,moved_age_sum_ms,12
 figure,q,moved_age_p50_ms,12
 figure,q,moved_age_p95_ms,12
 figure,q,moved_age_p99_ms,12
 figure,q,moved_age_greatest_ms,12
+figure,q,moved_age_window_p95_ms,12
+figure,q,moved_age_window_p95_at_ms,90
 figure,d,sent,0
 figure,d,sent_again,0
 figure,d,came_by_forward,1
@@ -180,10 +224,29 @@ figure,d,refused_sends,0
 figure,d,refused_receives,0
 figure,d,refused_deletes,0
 figure,d,refused_changes,0
+figure,d,starts,0
+figure,d,cancels,0
+figure,d,refused_starts,0
+figure,d,refused_cancels,0
+figure,d,SendMessage,1
+figure,d,ReceiveMessage,0
+figure,d,DeleteMessage,0
+figure,d,ChangeMessageVisibility,0
+figure,d,StartMessageMoveTask,0
+figure,d,CancelMessageMoveTask,0
+figure,d,requests,1
+figure,d,refused_requests,0
 figure,d,depth_greatest,2
 figure,d,depth_greatest_at_ms,75
 figure,d,in_flight_greatest,0
 figure,d,in_flight_greatest_at_ms,10
+figure,d,oldest_age_greatest_ms,44
+figure,d,oldest_age_greatest_at_ms,99
+figure,d,left,2
+figure,d,left_in_flight,0
+figure,d,quota_ms,0
+figure,d,backlog_gone_at_ms,
+figure,d,backlog_since_ms,55
 figure,d,received_once,0
 figure,d,received_again,0
 figure,d,tries_sum,0
@@ -193,16 +256,22 @@ figure,d,age_p50_ms,
 figure,d,age_p95_ms,
 figure,d,age_p99_ms,
 figure,d,age_greatest_ms,
+figure,d,age_window_p95_ms,
+figure,d,age_window_p95_at_ms,
 figure,d,new_age_sum_ms,0
 figure,d,new_age_p50_ms,
 figure,d,new_age_p95_ms,
 figure,d,new_age_p99_ms,
 figure,d,new_age_greatest_ms,
+figure,d,new_age_window_p95_ms,
+figure,d,new_age_window_p95_at_ms,
 figure,d,moved_age_sum_ms,0
 figure,d,moved_age_p50_ms,
 figure,d,moved_age_p95_ms,
 figure,d,moved_age_p99_ms,
 figure,d,moved_age_greatest_ms,
+figure,d,moved_age_window_p95_ms,
+figure,d,moved_age_window_p95_at_ms,
 figure,c,sent,0
 figure,c,sent_again,0
 figure,c,came_by_forward,1
@@ -225,7 +294,22 @@ figure,c,refused_sends,0
 figure,c,refused_receives,0
 figure,c,refused_deletes,0
 figure,c,refused_changes,0
+figure,c,starts,1
+figure,c,cancels,0
+figure,c,refused_starts,0
+figure,c,refused_cancels,1
+figure,c,SendMessage,1
+figure,c,ReceiveMessage,5
+figure,c,DeleteMessage,3
+figure,c,ChangeMessageVisibility,0
+figure,c,StartMessageMoveTask,1
+figure,c,CancelMessageMoveTask,1
+figure,c,requests,11
+figure,c,refused_requests,1
+figure,c,services,4
+figure,c,batches,4
 figure,c,busy_ms,50
+figure,c,busy_permille,555
 ";
 
 fn text(rt: &impl Abort, alloc: Global, name: &[u8]) -> Text {
@@ -276,15 +360,29 @@ fn rows(rt: &impl Abort, alloc: Global) -> Vec<Row> {
     rows
 }
 
-/// The figures of no rows, over the stretch from 10 to before 100.
+/// A queue with this name and quota.
+fn queue(rt: &impl Abort, alloc: Global, name: &[u8], quota: u64) -> QueueAsked {
+    QueueAsked {
+        name: text(rt, alloc, name),
+        quota,
+    }
+}
+
+/// The figures of no rows, over the stretch from 10 to before 100, where one message that waits is a
+/// backlog and a window has 40.
 fn fresh(rt: &impl Abort, alloc: Global) -> Figures {
-    let queues = vec![in alloc; text(rt, alloc, b"q"), text(rt, alloc, b"d")].expect(rt, "memory");
+    let queues = vec![in alloc; queue(rt, alloc, b"q", 2), queue(rt, alloc, b"d", 10)];
     let actors = vec![in alloc; text(rt, alloc, b"c")].expect(rt, "memory");
     let stretch = Stretch {
         from: 10,
         until: 100,
     };
-    Figures::new(alloc, stretch, queues, actors).expect(rt, "memory")
+    let wanted = Wanted {
+        stretch,
+        backlog: 0,
+        window: 40,
+    };
+    Figures::new(alloc, wanted, queues.expect(rt, "memory"), actors).expect(rt, "memory")
 }
 
 #[test]

@@ -208,7 +208,7 @@ fn workers_tell_the_same(rt: HostRuntime) {
 }
 
 // Each counter counts a token every ten milliseconds, so a moment has 2,000 rows. The run begins on
-// one list, and two moments with 1,024 rows or more make it go on in partitions.
+// one list, and eight moments with 1,024 rows or more make it go on in partitions.
 const DENSE: Ring = Ring {
     counters: 2_000,
     horizon: 100,

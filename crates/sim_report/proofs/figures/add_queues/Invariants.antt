@@ -5,4 +5,4 @@ use Rattle.sim_report.specs.Figured.{queue_records}
 use Rattle.sim_report.proofs.figures.add_queues.Given as goal
 
 abbrev pub invariant-loop-queue : goal.invariant-loop-queue
-invariant-loop-queue l = l.text ≡ l.initial.text ++ lines (flat_map queue_records (take l.queue-index l.queues))
+invariant-loop-queue l = l.text ≡ l.initial.text ++ lines (flat_map (queue_records l.wanted) (take l.queue-index l.queues))

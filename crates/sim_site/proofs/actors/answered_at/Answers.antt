@@ -11,7 +11,7 @@ pub returns-clause-settings : goal.returns-clause-settings
 returns-clause-settings c = settings_at c.args.number c.args.actors.now.values c.args.place c.requires.place c.value_mut.result.now c.value_mut.ensures.value c.answered.new.self c.answered.ensures.framed.settings
 
 pub returns-clause-marked : goal.returns-clause-marked
-returns-clause-marked c = told_marked c.args.actors.now c.args.place c.answered.new.self c.requires.place.within c.requires.marked
+returns-clause-marked c h = told_marked c.args.actors.now c.args.place c.answered.new.self c.requires.place.within h
 
 pub returns-clause-numbers : goal.returns-clause-numbers
 returns-clause-numbers c = numbers_at c.args.number c.args.actors.now.values c.args.place c.requires.place c.value_mut.result.now c.value_mut.ensures.value c.answered.new.self c.answered.ensures.framed.number

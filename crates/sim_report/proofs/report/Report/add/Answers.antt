@@ -17,7 +17,7 @@ returns c = λ asked before is.
     let same = c.self.view_is ∙ is in
     let start = c.as_mut_slice.ensures.value ∙ ap (λ (r : Counts). r.queues) same in
     let added = c.in_ok-add_to.ensures.counted ∙ ap (λ (qs : List QueueCounts). rows_added qs rows) start ∙ running-append asked.queues before rows in
-    let figures = ap (λ (r : Counts). option_map (figures_after rows) r.figures) same ∙ asked-append asked.queues asked.actors asked.stretch before rows in
+    let figures = ap (λ (r : Counts). option_map (figures_after rows) r.figures) same ∙ asked-append asked.figures before rows in
     let made : List QueueCounts → Option FiguresState → Counts = λ qs fs. record { queues = qs; figures = fs } in
     ap (λ (qs : List QueueCounts). made qs c.add_to.new.figures) (all ∙ added)
     ∙ ap (made (queues_running asked.queues (before ++ rows))) (c.in_ok-add_to.ensures.figured ∙ figures)

@@ -15,5 +15,5 @@ invariant_of-self c =
     record {
       order = λ e. rise_alike old c.answered_at.new.actors.values numbers (c.self.invariant.order e);
       first = subst (λ ns. IsFirst ns c.args.place) (sym numbers) (stands_first c.args.number old c.args.place stands);
-      marked = c.answered_at.ensures.marked;
+      marked = λ many. c.answered_at.ensures.marked (c.turn_to.ensures.marked many);
     }

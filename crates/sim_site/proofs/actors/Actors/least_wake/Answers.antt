@@ -10,5 +10,5 @@ use Rattle.sim_site.proofs.actors.Actors.least_wake.Goals as goal
 
 pub returns-clause-wake : goal.returns-clause-wake
 returns-clause-wake c =
-    c.least.ensures ∙ ap (λ (s : Marked Actor). least_of s.marks) c.bring_up.ensures ∙ marked_wakes (brought_up c.self.inside.told c.self.inside.list) c.self.invariant.marked
+    c.least.ensures ∙ ap (λ (s : Marked Actor). least_of s.marks) c.bring_up.ensures ∙ marked_wakes (brought_up c.self.inside.told c.self.inside.list) (c.self.invariant.marked c.if-self.false)
     ∙ ap (λ xs. least (flat_map actor_dues xs)) (brought_values c.self.inside.told c.self.inside.list ∙ c.self.view_is)

@@ -12,5 +12,5 @@ invariant_of-self c =
     record {
       order = λ e. rise_alike c.self.inside.list.values c.counted_at.new.actors.values after.numbers (c.self.invariant.order e);
       first = subst (λ ns. IfSome told (IsFirst ns)) (sym after.numbers) c.self.invariant.first;
-      marked = marked_alike told c.self.inside.list c.counted_at.new.actors after.marks after.wakes c.self.invariant.marked;
+      marked = λ many. marked_alike told c.self.inside.list c.counted_at.new.actors after.marks after.wakes (c.self.invariant.marked many);
     }

@@ -5,8 +5,8 @@ use Rattle.sim_clock.specs.Places.{IsAbsent, Stands, place_from_position}
 use Rattle.sqs_model.specs.Site.{is_actor}
 use Rattle.sim_site.proofs.actors.Actors.search.Goals as goal
 
-pub returns-then-self : goal.returns-then-self
-returns-then-self c =
+pub returns-then-not-self : goal.returns-then-not-self
+returns-then-not-self c =
     subst (λ (actors : List Actor). MatchOption c.found_in_order.result (IsAbsent (is_actor c.args.number) actors) (Stands (is_actor c.args.number) actors)) c.self.view_is
     (place_from_position (is_actor c.args.number) c.self.inside.list.values _ c.found_in_order.ensures)
 

@@ -48,5 +48,5 @@ invariant_of-self c =
     record {
       order = λ e. rise_alike c.self.inside.list.values after old (c.self.invariant.order e);
       first = subst (λ ns. IsFirst ns c.args.place) (sym numbers) (stands_first c.args.number now c.args.place here);
-      marked = told_marked c.turn_to.new.actors c.args.place c.woken.new.self here.within c.turn_to.ensures.marked;
+      marked = λ many. told_marked c.turn_to.new.actors c.args.place c.woken.new.self here.within (c.turn_to.ensures.marked many);
     }

@@ -1,0 +1,75 @@
+//! Ages in windows of time.
+ghost use Rattle.std.specs.Prelude.{◌≡◌, IfOk, OnOk, Some};
+ghost use Rattle.sim_report.specs.Figures.{no_windows, windows_with, worse, worst_of};
+
+use crate::ages::Ages;
+use std::alloc::{AllocError, Global};
+
+/// A window by its number, with the 95th percentile of its ages, in milliseconds.
+#[derive(Clone, Copy, Debug, PartialEq, Eq)]
+pub(crate) struct Worst {
+    pub(crate) number: u64,
+    pub(crate) age: u128,
+}
+
+/// The ages of the window that is counted, and the worst window before.
+#[derive(Drop)]
+pub(crate) struct Windows {
+    number: u64,
+    ages: Ages,
+    worst: Option<Worst>,
+}
+
+// The worse of two windows, the second of which has this number and age, if it has any; the first
+// one if they are equal.
+fn worse(worst: Option<Worst>, number: u64, age: Option<u128>) -> Option<Worst>
+    ensures { result ≡ worse worst number age }
+{
+    match (worst, age) {
+        (worst, None) => worst,
+        (None, Some(age)) => Some(Worst { number, age }),
+        (Some(worst), Some(age)) if worst.age < age => Some(Worst { number, age }),
+        (worst, Some(_)) => worst,
+    }
+}
+
+impl Windows {
+    /// Of no ages.
+    pub(crate) fn new(alloc: Global) -> Windows
+        ensures { result ≡ no_windows }
+    {
+        Windows {
+            number: 0,
+            ages: Ages::new(alloc),
+            worst: None,
+        }
+    }
+
+    /// The worst window so far.
+    ///
+    /// # Errors
+    ///
+    /// `AllocError` if a growth is refused.
+    pub(crate) fn worst(&self) -> Result<Option<Worst>, AllocError>
+        ensures { IfOk result (λ worst. worst ≡ worst_of self.now) }
+    {
+        let age = self.ages.nearest_rank(95)?;
+        Ok(worse(self.worst, self.number, age))
+    }
+
+    /// Adds an age in the window with this number.
+    ///
+    /// # Errors
+    ///
+    /// `AllocError` if the age could not be kept or counted.
+    pub(crate) fn add(&mut self, number: u64, age: u64) -> Result<(), AllocError>
+        ensures { OnOk result (self.new ≡ windows_with number (Some age) self.old) }
+    {
+        if self.number != number {
+            self.worst = self.worst()?;
+            self.ages.clear();
+            self.number = number;
+        }
+        self.ages.add(age)
+    }
+}
