@@ -3,12 +3,12 @@
 
     tools/compute_cases.py OUT.antt [--only WORD] [--but NAME] [--most ROWS] FOLDER..
 
-A case is a text NAME.toml with what the program prints for it: NAME.out, or NAME.err if it is refused.
-For a case that runs, the lemma says that the scenario read from the very bytes of NAME.toml has a
-one-list run whose log, finals and report are the CSV records of NAME.out, after which nothing is due
-by the horizon and every accepted message is in exactly one place. For a case that is refused, it
-says that the line of the first fault is NAME.err.
-In a folder whose name ends with -3 texts of version 3 are read, too.
+A FOLDER has cases that run, as texts NAME.toml with what the program prints for them in NAME.out; or it is a file of
+cases that are refused (tools/stored_cases.py has its form). For a case that runs, the lemma says that the scenario read
+from the very bytes of its text has a one-list run whose log, finals and report are the CSV records of NAME.out, after
+which nothing is due by the horizon and every accepted message is in exactly one place. For a case that is refused, it
+says that the line of the first fault is the stored one. In a folder whose name ends with -3 texts of version 3 are
+read, too.
 
 Write OUT.antt into a crate that uses the definitions (crates/sqs_examples/proofs, with a line in
 its Lib.antt) and run `rt check` there: a case that the definitions do not meet is an error.
@@ -22,11 +22,11 @@ from __future__ import annotations
 import csv
 import hashlib
 import io
-import os
 import sys
 from collections.abc import Iterable, Mapping, Sequence
 
-from rehearse_tools.console import Fault, Parser, check_output, ended, print_text, read_bytes, toml_of, write_text
+from rehearse_tools.console import Fault, Parser, check_output, ended, print_text, toml_of, write_text
+from stored_cases import Case, cases_at
 
 OPEN = ("reading_on_literals running_on_literals columns_of")
 # A handling may make no row, as a wake at which an actor of version 3 only stops. A run that has ended stays as it is.
@@ -105,40 +105,23 @@ def ran(name: str, shown: str, text: bytes, out: bytes) -> tuple[int, str]:
     return rows, "%s : %s %d [] %s\n    ≡ ran (%s ∷ [])\n" % (name, shown, handlings, quoted(text), lines)
 
 
-def shown_in(folder: str) -> str:
-    """What shows a case of a folder: with texts of version 3, or with those of released versions alone."""
-    return VERSION_3 if os.path.basename(folder.rstrip("/")).endswith("-3") else "shown"
+def shown_by(case: Case) -> str:
+    """What shows a case: with texts of version 3, or with those of released versions alone."""
+    return VERSION_3 if case.is_preview else "shown"
 
 
-def stored(path: str, may_lack: bool = True) -> bytes:
-    """The contents of a file of a case; empty if it is missing and may be."""
-    return b"" if may_lack and not os.path.exists(path) else read_bytes(path)
-
-
-def lemma(path: str, number: int, most: int) -> str | None:
-    base = path[:-len(".toml")]
-    name = "case_%s_%s" % (number, os.path.basename(base).replace("-", "_"))
-    text, shown = stored(path, may_lack=False), shown_in(os.path.dirname(path))
-    if not os.path.exists(base + ".err"):
+def lemma(case: Case, number: int, most: int) -> str | None:
+    name = "case_%s_%s" % (number, case.name.replace("-", "_"))
+    if not case.is_refused:
         try:
-            rows, claim = ran(name, shown, text, stored(base + ".out", may_lack=False))
+            rows, claim = ran(name, shown_by(case), case.text, case.printed)
         except (ValueError, KeyError, TypeError, AttributeError, StopIteration):
-            raise Fault("%s.out is not the output of %s" % (base, path)) from None
+            raise Fault("%s.out is not the output of %s.toml" % (case.path, case.path)) from None
         if rows > most:
             return None
     else:
-        claim = "%s : %s 0 [] %s\n    ≡ refused %s\n" % (name, shown, quoted(text), quoted(stored(base + ".err")))
-    return claim + "unfolding %s\n%s = refl\n" % (OPEN, name)
-
-
-def cases_in(folder: str, only: str, but: str) -> list[str]:
-    """The paths of the scenarios of a folder, but for the one of a name."""
-    try:
-        names = sorted(os.listdir(folder))
-    except OSError as error:
-        raise Fault("cannot read %s: %s" % (folder, error.strerror)) from None
-    return [os.path.join(folder, name) for name in names if name.endswith(".toml") and only in name
-            and name != f"{but}.toml"]
+        claim = "%s : %s 0 [] %s\n    ≡ refused %s\n" % (name, shown_by(case), quoted(case.text), quoted(case.printed))
+    return "-- %s.toml\n%sunfolding %s\n%s = refl\n" % (case.path, claim, OPEN, name)
 
 
 def main(words: Sequence[str]) -> int:
@@ -150,14 +133,10 @@ def main(words: Sequence[str]) -> int:
     parser.add_argument("--most", type=int, default=10**9, metavar="ROWS")
     options = parser.parse_args(words)
     check_output(options.out)
-    lemmas = []
-    for number, folder in enumerate(options.folders):
-        for path in cases_in(folder, options.only, options.but):
-            made = lemma(path, number, options.most)
-            if made is not None:
-                place = os.path.basename(folder.rstrip("/")), os.path.basename(path)
-                lemmas.append("-- %s/%s\n%s" % (*place, made))
-    used = sorted({shown_in(folder).split()[0] for folder in options.folders})
+    cases = [(number, case) for number, folder in enumerate(options.folders) for case in cases_at(folder)]
+    lemmas = [made for number, case in cases if options.only in case.name and case.name != options.but
+              if (made := lemma(case, number, options.most)) is not None]
+    used = sorted({shown_by(case).split()[0] for _, case in cases})
     write_text(options.out, HEAD.replace("SHOWN", ", ".join(used)) + "\n" + "\n".join(lemmas))
     print_text("%d lemmas in %s\n" % (len(lemmas), options.out))
     return 0

@@ -1,6 +1,5 @@
 """Tests tools/explain with a stand-in for the program that refuses as a test asks, and with the program itself."""
 import contextlib
-import glob
 import io
 import os
 import subprocess
@@ -10,6 +9,7 @@ import unittest
 from tool import PROGRAM, ROOT, TOOLS, ToolCase, module_of, needs_program
 from rehearse_tools.console import toml_of
 from rehearse_tools.positions import Positions
+from stored_cases import REFUSED, put, stored
 
 TOP = "version = 1\nhorizon = 60000\n"
 ORDERS = TOP + """
@@ -248,18 +248,15 @@ class Explain(ToolCase):
     @needs_program
     def test_all_stored_faults(self):
         """Each case that is refused has its refusal in the first line, and a sentence in the last."""
-        paths = [path for folder in ("faults", "faulty", "faults-3")
-                 for path in glob.glob(os.path.join(ROOT, "tests", "cases", folder, "*.err"))]
-        self.assertGreater(len(paths), 135)
-        for path in paths:
-            with open(path, encoding="utf-8") as file:
-                refusal = file.read().strip("\n")
-            words = [path.replace(".err", ".toml"), *(["--preview"] if "faults-3" in path else [])]
-            with self.subTest(path=path), contextlib.redirect_stdout(io.StringIO()) as out, \
+        cases = stored(*REFUSED)
+        self.assertGreater(len(cases), 135)
+        for case in cases:
+            words = [put(case, self.folder), *(["--preview"] if case.is_preview else [])]
+            with self.subTest(case=case.path), contextlib.redirect_stdout(io.StringIO()) as out, \
                     contextlib.redirect_stderr(io.StringIO()) as err:
                 self.assertEqual((explain.main(words), err.getvalue()), (1, ""))
                 lines = out.getvalue().splitlines()
-                self.assertTrue(lines[0].endswith(f": {refusal}"), lines)
+                self.assertTrue(lines[0].endswith(f": {case.line}"), lines)
                 self.assertTrue(lines[-1].endswith((".", "?")) and len(lines) > 1, lines)
                 self.assertNotIn("?:", lines[0])
 
@@ -285,9 +282,8 @@ def paths_in(value, path=()):
 class Places(unittest.TestCase):
     def test_each_key_of_the_stored_scenarios_is_found(self):
         compared = 0
-        for path in glob.glob(os.path.join(ROOT, "tests", "cases", "*", "*.toml")):
-            with open(path, encoding="utf-8", errors="replace", newline="") as file:
-                text = file.read()
+        for case in stored():
+            text = case.text.decode()
             try:
                 read = toml_of(text.removeprefix("\ufeff"))
             except ValueError:
@@ -296,10 +292,10 @@ class Places(unittest.TestCase):
             for key, value in paths_in(read):
                 if isinstance(value, list) and value and all(isinstance(item, dict) for item in value):
                     continue
-                self.assertIn(key, found.keys, path)
+                self.assertIn(key, found.keys, case.path)
                 start, end = found.values.get(key, (0, 0))
                 if isinstance(value, int) and not isinstance(value, bool):
-                    self.assertEqual(int(text[start:end].replace("_", ""), 0), value, path)
+                    self.assertEqual(int(text[start:end].replace("_", ""), 0), value, case.path)
                 compared += 1
         self.assertGreater(compared, 3_000)
 

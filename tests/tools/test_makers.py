@@ -36,6 +36,15 @@ case $out in
 esac
 printf 'desc: I1 cache: none\\nevents: Ir Dr Dw Bc Bcm Bi Bim\\nsummary: %s\\n' "$counts" > "$out"
 """
+REFUSALS = """=== b: refused 10 NotToml
+x
+
+
+=== c: refused 12 MissingKey at version
+y
+\\ No newline at end of text
+
+"""
 OUTPUT = """at,queue,agent,call,answer,message,receipt,detail
 0,q,s,send,new,m-0-0,,900150983cd24fb0d6963f7d28e17f72
 final,queue,message,origin,place,due,enqueued,receives,group,md5
@@ -135,15 +144,20 @@ class Bench(ToolCase):
 class Cases(ToolCase):
     def test_a_case_that_runs_and_one_that_is_refused(self):
         os.mkdir(self.path("cases"))
-        for name, text in (("a.toml", SCENARIO), ("a.out", OUTPUT), ("b.toml", "x"), ("b.err", "refused 10 NotToml\n")):
-            self.write(f"cases/{name}", text)
-        self.assertEqual(self.run_tool("compute_cases.py", "out.antt", "cases"), (0, "2 lemmas in out.antt\n", ""))
+        self.write("cases/a.toml", SCENARIO)
+        self.write("cases/a.out", OUTPUT)
+        self.write("f.refusals", REFUSALS)
+        words = "out.antt", "f.refusals", "cases"
+        self.assertEqual(self.run_tool("compute_cases.py", *words), (0, "3 lemmas in out.antt\n", ""))
         with open(self.path("out.antt"), encoding="utf-8") as file:
             text = file.read()
-        self.assertIn("""case_0_b : shown 0 [] (codes "x")\n    ≡ refused (codes "refused 10 NotToml\\n")\n""", text)
+        self.assertIn("""-- f/b.toml\ncase_0_b : shown 0 [] (codes "x\\n\\n")\n    ≡ refused (codes "refused 10 NotToml\\n")\n""",
+                      text)
+        self.assertIn("""case_0_c : shown 0 [] (codes "y")\n""", text)
         self.assertIn("""codes "new") ∷ (codes "m-0-0") ∷ [] ∷ digest (codes "abc") ∷ [])""", text)
-        self.assertEqual(self.run_tool("compute_cases.py", "out.antt", "cases", "--most", "0")[1],
-                         "1 lemmas in out.antt\n")
+        self.assertEqual(self.run_tool("compute_cases.py", *words, "--most", "0")[1], "2 lemmas in out.antt\n")
+        self.assertEqual(self.run_tool("compute_cases.py", *words, "--but", "b", "--only", "b")[1],
+                         "0 lemmas in out.antt\n")
 
     def test_faults(self):
         os.mkdir(self.path("cases"))
@@ -155,8 +169,14 @@ class Cases(ToolCase):
                 with open(self.path("cases/a.out"), "wb") as file:
                     file.write(data)
             self.assert_fault(self.run_tool("compute_cases.py", "out", "cases"), f"compute_cases.py: {line}")
-        self.assert_fault(self.run_tool("compute_cases.py", "out", "none"),
-                          "compute_cases.py: cannot read none: No such file or directory")
+        for name in "none", "none.refusals":
+            self.assert_fault(self.run_tool("compute_cases.py", "out", name),
+                              f"compute_cases.py: cannot read {name}: No such file or directory")
+        for text in "", f"\n{REFUSALS}", "x = 1\n":
+            self.write("x.refusals", text)
+            self.assert_fault(self.run_tool("compute_cases.py", "out", "x.refusals"),
+                              "compute_cases.py: x.refusals does not begin with a line '=== NAME: refused ..'")
+        os.remove(self.path("x.refusals"))
         self.assert_fault(self.run_tool("compute_cases.py", "cases/a.toml/x", "cases"),
                           "compute_cases.py: cannot write cases/a.toml/x: Not a directory")
         self.assertEqual(self.run_tool("compute_cases.py", "--help")[0::2], (0, ""))

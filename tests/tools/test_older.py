@@ -95,7 +95,7 @@ class Older(unittest.TestCase):
         example = os.path.join(ROOT, "examples", "short_timeout.toml")
         log = subprocess.run([str(PROGRAM), "run", example], check=True, capture_output=True).stdout
         for words in (["sweep", example, "--vary", "seed=1..3", "--columns", "deletes,age_p95,door_age_p95"],
-                      ["explain", os.path.join(ROOT, "tests", "cases", "faults", "version_three.toml")],
+                      ["explain", os.path.join(ROOT, "tests", "cases", "version-3", "heartbeat.toml")],
                       ["summary", "-", "--json"], ["metrics", "-"], ["life", "-", "--worst"]):
             told = [subprocess.run([python, "-B", os.path.join(TOOLS, words[0]), *words[1:]], input=log, cwd=ROOT,
                                    env=environment_of(python), capture_output=True)

@@ -3,7 +3,6 @@ from __future__ import annotations
 
 import json
 import os
-import pathlib
 import re
 import shutil
 import subprocess
@@ -15,6 +14,7 @@ import page_text
 from rehearse_tools import explain
 from rehearse_tools.console import read_text
 from rehearse_tools.programs import TOP
+from stored_cases import REFUSED, stored
 
 PAGE = ("scenario", "faults", "side", "link")
 SEEDS = ("edits", "seeds")
@@ -177,14 +177,14 @@ class Parts(ToolCase):
     def test_faults_in_words(self) -> None:
         """What is said of a fault of a stored case, of any version, is what tools/explain says."""
         asked, wanted = [], []
-        for path in sorted(pathlib.Path(TOP, "tests", "cases").glob("fault*/*.err")):
-            line, text = path.read_text().strip("\n"), path.with_suffix(".toml").read_bytes()
-            refusal = explain.REFUSED.fullmatch(line)
+        for case in stored(*REFUSED):
+            refusal = explain.REFUSED.fullmatch(case.line)
             # the page reads a preview; of a text that is no TOML, or a script's record, it knows less
             is_known = refusal is not None and refusal[2] not in ("NotToml", "BadScript") and refusal[3] != "version"
-            if refusal and is_known and b"\r" not in text:
-                asked.append([text.decode(), line])
-                wanted.append(explain.explanation(text.decode(), path.name, ".", refusal).split("\n")[-2])
+            if refusal and is_known and b"\r" not in case.text:
+                text = case.text.decode()
+                asked.append([text, case.line])
+                wanted.append(explain.explanation(text, case.name, ".", refusal).split("\n")[-2])
         self.assertGreater(len(asked), 100)
         told = self.asked(PAGE, "return values[0].map(([text, line]) => new Fault(text, line, []).reason);", asked)
         self.assertEqual(told, wanted)

@@ -12,6 +12,7 @@ import tty
 import unittest
 
 from tool import LIMIT, PROGRAM as PROVED, ROOT, ToolCase, module_of, needs_program, read_whole, wait_for
+from stored_cases import stored
 
 BUILD_IT = "./sqs_rehearse --build builds it"
 NO_DIST = f"the program is not built yet, and dist/ has no program: {BUILD_IT}"
@@ -496,17 +497,15 @@ class ByNode(WrapperCase):
     @unittest.skipUnless(shutil.which("node"), "node is not here")
     def test_stored_cases(self):
         """A tenth of the stored cases, by their outputs and statuses; those of version 3 only as a preview."""
-        cases = sorted(pathlib.Path(ROOT, "tests", "cases").glob("*/*.toml"))
+        cases = stored()
         self.assertGreater(len(cases), 200)
-        for path in cases[::10]:
-            with self.subTest(case=path.name):
-                stored = [path.with_suffix(f".{kind}") for kind in ("out", "err")]
-                out, err = (it.read_bytes() if it.exists() else b"" for it in stored)
-                words = ("--preview",) if path.parent.name.endswith("-3") else ()
-                self.assertEqual(self.run_there("run", *words, stdin=path.read_bytes()),
-                                 (1 if err else 0, out, NODE_NOTE + err.decode()))
-                if words and b"\nversion = 3\n" in b"\n" + path.read_bytes():
-                    self.assertEqual(self.run_there("run", stdin=path.read_bytes()),
+        for case in cases[::10]:
+            with self.subTest(case=case.path):
+                words = ("--preview",) if case.is_preview else ()
+                wanted = (1, b"", NODE_NOTE + case.printed.decode()) if case.is_refused else (0, case.printed, NODE_NOTE)
+                self.assertEqual(self.run_there("run", *words, stdin=case.text), wanted)
+                if words and b"\nversion = 3\n" in b"\n" + case.text:
+                    self.assertEqual(self.run_there("run", stdin=case.text),
                                      (1, b"", NODE_NOTE + "refused 14 OutOfRange at version\n"))
 
     @unittest.skipUnless(shutil.which("node"), "node is not here")

@@ -1,6 +1,5 @@
 """Tests the reference in tests/reference: against stored cases, against the program over random scenarios, and for
 version 3 against docs/FORMATS.md and docs/MODEL.md, by logs, faults and times that were written by hand."""
-import glob
 import os
 import pathlib
 import random
@@ -18,14 +17,14 @@ from faults import Fault  # noqa: E402
 from making import PROFILES, scenario_text  # noqa: E402
 from reader import read  # noqa: E402
 from sites import TooLong  # noqa: E402
+from stored_cases import stored  # noqa: E402 (tool.py puts tools/ on the path)
 from words import MASK, Draws, place_by_weight, time_at  # noqa: E402
 
 SEEDS, MOST_HANDLINGS = range(1, 21), 1_000
 OLD_PROFILES = [name for name, (version, _) in PROFILES.items() if version < 3]
 NEW_PROFILES = [name for name, (version, _) in PROFILES.items() if version == 3]
-STORED = sorted(glob.glob(os.path.join(ROOT, "tests", "cases", "*", "*.toml")))
-STORED_3 = [path for path in STORED if os.path.dirname(path).endswith("-3")]
-OLD_STORED = sorted(set(STORED) - set(STORED_3))
+STORED_3 = [case for case in stored() if case.is_preview]
+OLD_STORED = [case for case in stored() if not case.is_preview]
 VERSION_2 = re.compile(rb"^version = 2$", re.MULTILINE)
 HEAD = 'version = 3\nhorizon = 9\n[[queue]]\nname = "q"\n[[queue]]\nname = "w-1"\n[[queue]]\nname = "f.fifo"\n'
 CONSUMER = HEAD + '[[actor]]\nname = "c"\nkind = "consumer"\nqueue = "q"\n'
@@ -123,15 +122,8 @@ FAULTS = [
 ]
 
 
-def with_end(path, end):
-    """The bytes of the file that belongs to a scenario, or none."""
-    file = pathlib.Path(path).with_suffix(end)
-    return file.read_bytes() if file.exists() else b""
-
-
-def stored_outcome(path):
-    error = with_end(path, ".err")
-    return Outcome(1 if error else 0, with_end(path, ".out"), error)
+def stored_outcome(case):
+    return Outcome(1, b"", case.printed) if case.is_refused else Outcome(0, case.printed, b"")
 
 
 def fault_line(text):
@@ -167,16 +159,15 @@ class OldVersions(unittest.TestCase):
         self.assertEqual(first_difference(wanted, found), "")
 
     def test_stored_cases(self):
-        for path in OLD_STORED:
-            with self.subTest(case=os.path.relpath(path, ROOT)):
-                self.assert_same(stored_outcome(path), referred(pathlib.Path(path).read_bytes()))
+        for case in OLD_STORED:
+            with self.subTest(case=case.path):
+                self.assert_same(stored_outcome(case), referred(case.text))
 
     @needs_program
     def test_the_program_agrees_on_stored_cases(self):
-        for path in OLD_STORED:
-            with self.subTest(case=os.path.relpath(path, ROOT)):
-                source = pathlib.Path(path).read_bytes()
-                self.assert_same(referred(source), answered(PROGRAM, source))
+        for case in OLD_STORED:
+            with self.subTest(case=case.path):
+                self.assert_same(referred(case.text), answered(PROGRAM, case.text))
 
     @needs_program
     def test_the_program_agrees_on_random_scenarios(self):
@@ -187,7 +178,7 @@ class OldVersions(unittest.TestCase):
                     self.assert_same(wanted, answered(PROGRAM, source, *split_words(source)))
 
     def test_a_text_of_version_2_is_the_same_in_version_3(self):
-        sources = [pathlib.Path(path).read_bytes() for path in OLD_STORED]
+        sources = [case.text for case in OLD_STORED]
         sources += [source for _, source, _ in random_texts("version-2")]
         sources = [source for source in sources if VERSION_2.search(source)]
         self.assertGreater(len(sources), 50)
@@ -199,16 +190,15 @@ class OldVersions(unittest.TestCase):
 class VersionThree(unittest.TestCase):
     def test_stored_cases(self):
         self.assertGreaterEqual(len(STORED_3), 110)
-        for path in STORED_3:
-            with self.subTest(case=os.path.relpath(path, ROOT)):
-                found = referred(pathlib.Path(path).read_bytes(), 3)
-                self.assertEqual(first_difference(stored_outcome(path), found), "")
+        for case in STORED_3:
+            with self.subTest(case=case.path):
+                self.assertEqual(first_difference(stored_outcome(case), referred(case.text, 3)), "")
 
     @needs_program
     def test_the_program_agrees_on_stored_cases(self):
-        for path in STORED_3:
-            source, wanted = pathlib.Path(path).read_bytes(), stored_outcome(path)
-            with self.subTest(case=os.path.basename(path)):
+        for case in STORED_3:
+            source, wanted = case.text, stored_outcome(case)
+            with self.subTest(case=case.path):
                 for words in ([], split_words(source)):
                     self.assertEqual(first_difference(wanted, answered(PROGRAM, source, "--preview", *words)), "")
                 self.assertEqual(answered(PROGRAM, source), referred(source))

@@ -1,7 +1,7 @@
 """Tests docs/scenario.schema.json against all stored cases, good and faulty, and what the documents say of keys."""
-import glob
 import json
 import os
+import pathlib
 import re
 import unittest
 
@@ -11,13 +11,12 @@ from rehearse_tools.console import Fault, library, toml_of
 from rehearse_tools.keys import (CONSUMER, FIFO, HEAD, ITEMS, NUMBER, NUMBERS, PREVIEW, PRODUCER, QUANTILES, QUEUE,
                                  REQUIRED, SCRIPT, STANDARD, TASK, TOP, TRUTH, VERSIONS, WEIGHTS, consumer_keys,
                                  keys_of, latency)
+from stored_cases import REFUSED, RUNNING, stored
 
 try:
     jsonschema = library("jsonschema", "python3-jsonschema")
 except Fault:
     jsonschema = None
-GOOD = ("worked", "by-hand", "one-queue", "networks", "version-2", "version-3")
-FAULTY = ("faults", "faulty", "faults-3")
 # What a schema cannot say, by the line of the refusal; docs/FORMATS.md has it in words.
 UNSAID = re.compile(r"refused (?:10 NotToml|(?:15|19) .*\.copies|16 .*|17 .*|18 .*|20 .*|12 MissingKey at .*\.script|"
                     r"14 OutOfRange at (?:version|.*\.(?:gap_max_ms|service_max_ms|latency_max_ms|sampled|body|stop_ms|"
@@ -40,14 +39,8 @@ WHERE_THERE = {"calls", "script", "dead_letter", "forward", "fails_from_ms", "ke
 APART = {("consumers.rt", "consumer"): ("actors.rt", "copies")}
 
 
-def cases(folders):
-    patterns = [os.path.join(ROOT, "tests", "cases", folder, "*.toml") for folder in folders]
-    return [path for pattern in patterns for path in sorted(glob.glob(pattern))]
-
-
-def read(path):
-    with open(path, "rb") as file:
-        return toml_of(file.read().decode("utf-8").removeprefix("\ufeff"))
+def read(text):
+    return toml_of(text.decode("utf-8").removeprefix("\ufeff"))
 
 
 def documented_tables():
@@ -76,26 +69,23 @@ class Schema(unittest.TestCase):
         jsonschema.Draft7Validator.check_schema(SCHEMA)
 
     def test_good_cases(self):
-        paths = cases(GOOD) + glob.glob(os.path.join(ROOT, "examples", "**", "*.toml"), recursive=True)
-        self.assertGreater(len(paths), 100)
-        for path in paths:
+        texts = {case.path: case.text for case in stored(*RUNNING)}
+        texts.update((str(path), path.read_bytes()) for path in pathlib.Path(ROOT, "examples").rglob("*.toml"))
+        self.assertGreater(len(texts), 100)
+        for path, text in texts.items():
             with self.subTest(path=path):
-                self.assertEqual([error.message for error in self.validator.iter_errors(read(path))], [])
+                self.assertEqual([error.message for error in self.validator.iter_errors(read(text))], [])
 
     def test_faulty_cases(self):
         """Each case that the program refuses is refused, but for what a schema cannot say."""
         refused = unsaid = 0
-        for path in cases(FAULTY):
-            fault = path.removesuffix(".toml") + ".err"
-            if not os.path.exists(fault):
-                continue
-            with open(fault, encoding="utf-8") as file:
-                is_unsaid = UNSAID.fullmatch(file.read())
+        for case in stored(*REFUSED):
+            is_unsaid = UNSAID.fullmatch(case.printed.decode())
             try:
-                is_valid = self.validator.is_valid(read(path))
-            except (ValueError, UnicodeDecodeError):
+                is_valid = self.validator.is_valid(read(case.text))
+            except ValueError:
                 is_valid = is_unsaid = True
-            with self.subTest(path=path):
+            with self.subTest(case=case.path):
                 self.assertTrue(is_unsaid or not is_valid)
             refused, unsaid = refused + (not is_valid), unsaid + bool(is_unsaid)
         self.assertGreater(refused, 25)
