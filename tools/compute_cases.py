@@ -111,16 +111,16 @@ def shown_by(case: Case) -> str:
 
 
 def lemma(case: Case, number: int, most: int) -> str | None:
-    name = "case_%s_%s" % (number, case.name.replace("-", "_"))
+    name, shown = "case_%s_%s" % (number, case.name.replace("-", "_")), shown_by(case)
     if not case.is_refused:
         try:
-            rows, claim = ran(name, shown_by(case), case.text, case.printed)
+            rows, claim = ran(name, shown, case.text, case.printed)
         except (ValueError, KeyError, TypeError, AttributeError, StopIteration):
             raise Fault("%s.out is not the output of %s.toml" % (case.path, case.path)) from None
         if rows > most:
             return None
     else:
-        claim = "%s : %s 0 [] %s\n    ≡ refused %s\n" % (name, shown_by(case), quoted(case.text), quoted(case.printed))
+        claim = "%s : %s 0 [] %s\n    ≡ refused %s\n" % (name, shown, quoted(case.text), quoted(case.printed))
     return "-- %s.toml\n%sunfolding %s\n%s = refl\n" % (case.path, claim, OPEN, name)
 
 

@@ -138,9 +138,12 @@ class Package(PackageCase):
 
     def check_tools(self, root):
         """The package of the tools is whole, without what Python keeps; `sqs_rehearse TOOL` is sqs_rehearse-TOOL."""
-        installed = f"{root}/usr/lib/sqs_rehearse/tools/rehearse_tools"
-        self.assertEqual({path.name for path in pathlib.Path(TOOLS, "rehearse_tools").glob("*.py")},
-                         {name for name in os.listdir(installed) if name != "__pycache__"})
+        there, installed = (pathlib.Path(folder, "rehearse_tools") for folder in (
+            TOOLS, f"{root}/usr/lib/sqs_rehearse/tools"))
+        self.assertEqual(*({str(path.relative_to(folder)) for end in ("*.py", "facts/*.csv") for path in folder.glob(end)}
+                           for folder in (there, installed)))
+        self.assertEqual({path.name for path in installed.iterdir()} - {"__pycache__", "facts"},
+                         {path.name for path in there.glob("*.py")})
         listed = self.run_in("/", "dpkg-deb", "--contents", self.made)[1]
         self.assertTrue("rehearse_tools/summary.py" in listed and "__pycache__" not in listed, listed)
         for command in ("sqs_rehearse summary", "sqs_rehearse-summary"):

@@ -115,7 +115,7 @@ class Documents(unittest.TestCase):
         for head, keys in DOCUMENTED.items():
             rows = [row for row in tables[head] if row[0] != "latency"]
             self.assertEqual([row[0] for row in rows], [key.name for key in keys], head)
-            for key, (name, default, found, about) in zip(keys, rows):
+            for key, (name, default, found, *_, about) in zip(keys, rows):
                 with self.subTest(table=head, key=name):
                     self.assertEqual(about.startswith("(3) "), key.since == 3)
                     wanted = {None: "none", REQUIRED: REQUIRED, True: "true", False: "false"}.get(key.default)
@@ -171,7 +171,7 @@ class Documents(unittest.TestCase):
 
     def test_keys_of_version_3_alone(self):
         new = {key.name for keys in (PRODUCER, CONSUMER) for key in keys if key.since == 3}
-        self.assertEqual(set(SCHEMA["definitions"]["before_version_3"]["properties"]), new)
+        self.assertEqual(set(SCHEMA["definitions"]["before_version_3_actor"]["properties"]), new)
         for kind in ("script", "producer", "consumer"):
             self.assertFalse(new & {key.name for key in keys_of("actor", kind, 2)})
 

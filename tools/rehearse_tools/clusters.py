@@ -7,6 +7,7 @@ import importlib
 import io
 import logging
 import os
+import pathlib
 import pickle
 import re
 import shutil
@@ -65,10 +66,10 @@ def run_there(name: str, command: Sequence[str], data: bytes) -> tuple[int, byte
 
 def files_of(program: str, scripts: Mapping[str, bytes]) -> dict[str, bytes]:
     """All that a worker is sent, by its name in the worker's folder."""
-    folder = os.path.dirname(os.path.abspath(__file__))
-    modules = {os.path.join(os.path.basename(folder), name): read_bytes(os.path.join(folder, name))
-               for name in sorted(os.listdir(folder)) if name.endswith(".py")}
-    return {PROGRAM: read_bytes(program), **modules,
+    folder = pathlib.Path(__file__).resolve().parent
+    package = {str(path.relative_to(folder.parent)): read_bytes(str(path))
+               for pattern in ("*.py", "facts/*.csv") for path in sorted(folder.glob(pattern))}
+    return {PROGRAM: read_bytes(program), **package,
             **{os.path.join(SCRIPTS, name): data for name, data in scripts.items()}}
 
 

@@ -10,6 +10,7 @@ from operator import length_hint
 from typing import Any, NamedTuple, TextIO
 
 from .console import Fault, Progress, note, shown
+from .fact_tables import rows_of
 
 
 class Row(NamedTuple):
@@ -60,21 +61,19 @@ class Final(NamedTuple):
 LOG_HEADER, FINAL_HEADER = list(Row._fields), list(Final._fields)
 TRANSFER_HEADER = "transfer,from,to,kind,due,number,message,origin,md5".split(",")
 TASK_HEADER = "task,name,status,moved".split(",")
-REPORT_HEADER = (
-    "report,queue,sends,repeats,receives,empties,deletes,expiries,redrives,moves,arrivals,OverLimit,MessageNotInflight,"
-    "ReceiptHandleIsInvalid,BadTimeout,MissingGroup,MissingDeduplication,BadDelay,TaskRunning,NoTask,depth_max,visible,"
-    "in_flight,delayed,age_sum,age_max,age_p50,age_p95,age_p99").split(",")
+# The refusals of calls, which are the answers of rows.
+REFUSALS = [row["name"] for row in rows_of("refusals") if int(row["number"]) < 10]
+COLUMNS = rows_of("columns")
+REPORT_HEADER = ["report", "queue", *(name for row in COLUMNS for name in (
+    REFUSALS if row["name"] == "refusals" else [row["name"]]))]
 
 # Figures follow the report where the program was asked for them.
 FIGURE_HEADER = "figure,of,name,value".split(",")
 
-REFUSALS = REPORT_HEADER[REPORT_HEADER.index("OverLimit"):REPORT_HEADER.index("depth_max")]
 # The columns of a report that count rows, by the calls and answers of these; a refusal is a column of its own name.
 COLUMN_OF: dict[What, str] = {
-    ("send", "new"): "sends", ("send", "repeat"): "repeats", ("arrive", "repeat"): "repeats",
-    ("receive", "ok"): "receives", ("receive", "empty"): "empties", ("delete", "deleted"): "deletes",
-    ("expire", "expired"): "expiries", ("redrive", "out"): "redrives", ("move", "out"): "moves",
-    ("arrive", "new"): "arrivals"}
+    (call, answer): row["name"] for row in COLUMNS if row["counts"]
+    for call, answer in (counted.split() for counted in row["counts"].split("; "))}
 COUNTED = dict.fromkeys((*COLUMN_OF.values(), *REFUSALS))
 # The columns of the places of messages that are left, by what the final queues call them.
 PLACES = {"visible": "visible", "inflight": "in_flight", "delayed": "delayed"}

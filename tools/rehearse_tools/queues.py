@@ -11,14 +11,12 @@ from collections.abc import Mapping
 from typing import Any
 
 from .console import Fault, read_bytes, shown
+from .keys import ROWS, key_of
 
 NAME_MOST = 80
-# Attributes that are whole numbers, with the scenario's key, the default of both, and the range.
-NUMBERS = {
-    "VisibilityTimeout": ("visibility_s", 30, 0, 43_200),
-    "DelaySeconds": ("delay_s", 0, 0, 900),
-    "MessageRetentionPeriod": ("retention_s", 345_600, 60, 1_209_600),
-}
+# Attributes that are whole numbers, with the scenario's keys, which have their defaults and ranges.
+NUMBERS = {row["aws"]: key_of(row) for row in ROWS
+           if row["table"] == "queue" and row["kind"] == "number" and row["aws"].isalpha()}
 SCOPES = {"queue": "queue", "messageGroup": "group"}
 USED = {"QueueArn", "QueueUrl", "QueueName", "FifoQueue", "FifoThroughputLimit", "ContentBasedDeduplication",
         "DeduplicationScope", "RedrivePolicy", "ReceiveMessageWaitTimeSeconds", *NUMBERS}
@@ -103,13 +101,13 @@ def json_in(text: str, path: str) -> Any:
 
 def add_numbers(queue: Queue, attributes: Mapping[str, str], unknown: Mapping[str, str]) -> None:
     """Adds the keys that are numbers; `unknown` has for attributes whose value is not known the reason."""
-    for attribute, (key, default, low, high) in NUMBERS.items():
+    for attribute, key in NUMBERS.items():
         if attribute not in attributes:
             reason = f"is not known: {unknown[attribute]}" if attribute in unknown else "is not given"
-            queue.note(f"DEFAULT: {key} of {default}, as {queue.title(attribute)} {reason}")
+            queue.note(f"DEFAULT: {key.name} of {key.default}, as {queue.title(attribute)} {reason}")
             continue
-        number = queue.number(queue.title(attribute), attributes[attribute], low, high)
-        queue.lines.append(f"{key} = {number}")
+        number = queue.number(queue.title(attribute), attributes[attribute], key.low or 0, key.high or 0)
+        queue.lines.append(f"{key.name} = {number}")
 
 
 def add_fifo(queue: Queue, attributes: Mapping[str, str]) -> None:

@@ -1,0 +1,23 @@
+"""Reads the tables in facts/, which have what documents, tools and the page tell of keys, refusals and columns:
+
+- keys.csv has the keys of a scenario, by their tables and in the order in which they are read. `range` says it in words
+  where the numbers do not, `queues` is the only kind of queue that may have the key, `beside` the only key beside which
+  it may stand, `least` the key that is its least value, `replaces` those in whose place it may stand, and `items` the
+  bounds of each number of a list. `about` is for all who ask what a key is, and `rule` for docs/FORMATS.md alone. The
+  row `latency` of a table stands for the keys of the table latency.
+- refusals.csv has the refusals by number. `aws` is the error of SQS, and `remedy` what one may do.
+- columns.csv has the columns of the report, with the rows that they count and their metrics of CloudWatch. The row
+  `refusals` stands for the refusals of calls.
+
+The modules keys and logs read them, and tools/facts makes tables of docs/FORMATS.md and docs/scenario.schema.json.
+"""
+from __future__ import annotations
+
+import csv
+import os
+
+
+def rows_of(name: str) -> list[dict[str, str]]:
+    """The rows of a table by the names of its columns."""
+    with open(os.path.join(os.path.dirname(__file__), "facts", f"{name}.csv"), encoding="utf-8", newline="") as file:
+        return list(csv.DictReader(file))
