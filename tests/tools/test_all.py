@@ -362,6 +362,14 @@ class Repository(ToolCase):
             self.assertEqual(len(found), 1, path)
         self.assertIn(os.path.join(ROOT, "tools", "layers") + " --check", commands)
 
+    def test_all_parts_are_in_the_map(self):
+        """In tests/README.md each program and each file of tests stands in one row, under its own heading."""
+        text = pathlib.Path(ROOT, "tests", "README.md").read_text(encoding="utf-8")
+        rows = [line.split("|")[2:4] for line in text.splitlines() if line.startswith("| ")][1:]
+        programs, files = (re.findall(r"`(\w+)`", " ".join(row[at] for row in rows)) for at in (0, 1))
+        self.assertEqual(sorted([*programs, "layers", "wrong-bodies", *(f"test_{name}" for name in files)]),
+                         sorted(self.parts))
+
     def test_names_that_are_known_are_parts(self):
         for names in (everything.NOT_QUICK, everything.SECONDS, everything.WITHOUT_PROGRAM):
             self.assertEqual(set(names) - set(self.parts), set())
