@@ -89,11 +89,6 @@ def stored(*folders: str) -> list[Case]:
             for case in cases_at(os.path.join(CASES, folder + (END if folder in REFUSED else "")))]
 
 
-def case_named(path: str) -> Case:
-    """The stored case of a folder and a name, as faults/empty_text."""
-    return next(case for case in stored(path.partition("/")[0]) if case.path == path)
-
-
 def put(case: Case, folder: str) -> str:
     """Writes a case below a folder, and gives the path of its text."""
     base = os.path.join(folder, case.folder, case.name)

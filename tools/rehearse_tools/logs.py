@@ -62,7 +62,7 @@ LOG_HEADER, FINAL_HEADER = list(Row._fields), list(Final._fields)
 TRANSFER_HEADER = "transfer,from,to,kind,due,number,message,origin,md5".split(",")
 TASK_HEADER = "task,name,status,moved".split(",")
 # The refusals of calls, which are the answers of rows.
-REFUSALS = [row["name"] for row in rows_of("refusals") if int(row["number"]) < 10]
+REFUSALS = [row["name"] for row in rows_of("refusals") if not row["status"]]
 COLUMNS = rows_of("columns")
 REPORT_HEADER = ["report", "queue", *(name for row in COLUMNS for name in (
     REFUSALS if row["name"] == "refusals" else [row["name"]]))]
