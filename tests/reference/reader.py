@@ -18,6 +18,9 @@ AGENT_NAME = re.compile(r"[A-Za-z0-9_-]{1,80}")
 QUEUE_NAME = re.compile(r"(?=.{1,80}\Z)[A-Za-z0-9_-]+(\.fifo)?")
 SCRIPT_NAME = re.compile(r"[A-Za-z0-9_-][A-Za-z0-9._-]{0,79}")
 HEAD = ["name", "kind", "queue"]
+# The numbers that every queue may have, in the order in which they are read: their ranges and defaults.
+QUEUE_NUMBERS = {"visibility_s": (0, 43_200, 30), "delay_s": (0, 900, 0), "retention_s": (60, 1_209_600, 345_600),
+                 "in_flight": (1, 120_000, 120_000)}
 # The keys of consumers that version 3 has besides, in the order in which they are read.
 NEW_CONSUMER_KEYS = ["stop_ms", "fails_on", "fails_from_ms", "batch_fails", "backoff_s", "heartbeat_s", "copies"]
 
@@ -129,13 +132,10 @@ class Reader:
         is_fifo, has_policy = name.endswith(".fifo"), table.has("dead_letter")
         own_keys = ["content_dedup", "dedup_scope"] if is_fifo else ["hosts", "sampled"]
         policy_keys = ["max_receives", *self.latency_keys()] if has_policy else []
-        table.only(["name", "visibility_s", "delay_s", "retention_s", "in_flight", "dead_letter", *own_keys,
-                    *policy_keys])
-        settings = QueueSettings(
-            name, is_fifo, table.optional("visibility_s", integer(0, 43_200), 30),
-            1000 * table.optional("delay_s", integer(0, 900), 0),
-            1000 * table.optional("retention_s", integer(60, 1_209_600), 345_600),
-            table.optional("in_flight", integer(1, 120_000), 120_000))
+        table.only(["name", *QUEUE_NUMBERS, "dead_letter", *own_keys, *policy_keys])
+        visibility, delay, retention, most = (table.optional(key, integer(low, high), default)
+                                              for key, (low, high, default) in QUEUE_NUMBERS.items())
+        settings = QueueSettings(name, is_fifo, visibility, 1000 * delay, 1000 * retention, most)
         if is_fifo:
             settings.content_dedup = table.optional("content_dedup", boolean, False)
             scope = table.optional("dedup_scope", one_of("queue", "group"), "queue")
@@ -247,8 +247,8 @@ class Reader:
             consumer.outage = range(begin, table.required("fails_to_ms", integer(begin, MOST_TIME)))
         consumer.is_whole = table.optional("batch_fails", one_of("each", "whole"), "each") == "whole"
         consumer.backoff_s = table.optional("backoff_s", backoffs, [])
-        heartbeat_s = table.maybe("heartbeat_s", integer(1, 43_200))
-        consumer.heartbeat = heartbeat_s and 1000 * heartbeat_s
+        seconds = table.maybe("heartbeat_s", integer(1, 43_200))
+        consumer.heartbeat = seconds and 1000 * seconds
 
     def judge_copies(self, place: str, name: str, copies: int) -> None:
         names = copy_names(name, copies)
