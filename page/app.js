@@ -497,9 +497,12 @@ const titleOf = name => name.replace(/[.]toml$/, '').replaceAll('_', ' ');
 // Keeps the tiles, and the inputs as far as they fit, in view as the page scrolls: the lower end of inputs that are
 // longer than the window comes into view with the page, so that there is one scroll bar alone.
 function keepInView() {
-  const tall = byId('glance').offsetHeight, { style } = document.documentElement;
-  style.setProperty('--tiles', `${tall}px`);
-  style.setProperty('--inputs', `${Math.min(tall + 8, innerHeight - byId('inputs').offsetHeight)}px`);
+  const tall = byId('glance').offsetHeight, below = Math.min(tall + 8, innerHeight - byId('inputs').offsetHeight);
+  const { style } = document.documentElement;
+  // a property that is set has the whole page laid out again
+  for (const [name, length] of [['--tiles', `${tall}px`], ['--inputs', `${below}px`]]) {
+    if (style.getPropertyValue(name) !== length) style.setProperty(name, length);
+  }
 }
 
 async function start() {
