@@ -18,8 +18,9 @@ import { duration, grouped, several } from './units.js';
 /** What a run says that has the roles of its scenario.
  * @typedef {Pick<Outcome, 'values' | 'busy' | keyof Roles>} Told */
 /**
- * What a tile says: its number (null if there is none), how it is written, and a note.
- * @typedef {{ label: string, number: number | null, written: (number: number) => string, note: string }} Tile
+ * What a tile says: its number (null if there is none), how it is written, a note, and whose number it is.
+ * @typedef {{ label: string, number: number | null, written: (number: number) => string, note: string,
+ *   name?: string }} Tile
  */
 
 /** @template {string} Key @param {Record<Key, number>[]} queues @param {Key} key */
@@ -101,8 +102,8 @@ export function tilesOf(result) {
     { label: 'greatest backlog', number: deepest?.depth_greatest ?? 0, written: grouped,
       note: deepest?.depth_greatest ? `${noted(deepest)} at ${duration(deepest.depth_greatest_at_ms ?? 0)}`.trim()
         : '' },
-    { label: 'busiest consumer', number: busiest ? busiest.permille : null, written: share,
-      note: busiest ? `(${busiest.name})` : '' }];
+    { label: 'busiest consumer', number: busiest ? busiest.permille : null, written: share, note: '',
+      name: busiest?.name }];
 }
 
 /** @param {string[]} parts */
@@ -146,7 +147,7 @@ function spreadTold(range, text, count) {
 // than what is required. Less is better in each.
 /** @param {Tile} tile @param {Tile | undefined} before
  * @param {(text: (number: number | null) => string) => import('./dom.js').Part[]} told @param {boolean} isBroken */
-function tileOf({ label, number, written, note }, before, told, isBroken) {
+function tileOf({ label, number, written, note, name = '' }, before, told, isBroken) {
   const text = (/** @type {number | null | undefined} */ value) =>
     value === null || value === undefined ? 'none' : written(value);
   const isOther = before && text(before.number) !== text(number);
@@ -156,8 +157,8 @@ function tileOf({ label, number, written, note }, before, told, isBroken) {
   return element('div', { className: `tile ${sign} ${isBroken ? 'broken' : ''}` },
     element('span', { className: 'label' }, label,
       note ? element('span', { className: 'of', textContent: ` ${note}` }) : ''),
-    element('strong', { textContent: text(number) }), element('span', { className: 'was', textContent: !isOther ? ''
-      : `${ARROWS[sign]}from ${text(before.number)}` }),
+    element('strong', { textContent: text(number) }), element('span', { className: 'name', textContent: name }),
+    element('span', { className: 'was', textContent: !isOther ? '' : `${ARROWS[sign]}from ${text(before.number)}` }),
     element('span', { className: 'spread-of' }, ...told(text)));
 }
 

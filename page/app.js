@@ -237,6 +237,8 @@ async function showAll() {
   byId('results').hidden = byId('more-outputs').hidden = false;
   clearTimeout(settling);
   tiles = showAnswer(done, before, require);
+  // for those who measure when the first answer is there
+  if (!performance.getEntriesByName('answer').length) performance.mark('answer');
   curve.draw();
   // the worker counts what is drawn while the tables are made
   const isDrawn = pictures.show(done);
@@ -498,10 +500,9 @@ const titleOf = name => name.replace(/[.]toml$/, '').replaceAll('_', ' ');
 // longer than the window comes into view with the page, so that there is one scroll bar alone.
 function keepInView() {
   const tall = byId('glance').offsetHeight, below = Math.min(tall + 8, innerHeight - byId('inputs').offsetHeight);
-  const { style } = document.documentElement;
-  // a property that is set has the whole page laid out again
-  for (const [name, length] of [['--tiles', `${tall}px`], ['--inputs', `${below}px`]]) {
-    if (style.getPropertyValue(name) !== length) style.setProperty(name, length);
+  for (const { style } of [document.documentElement, byId('moment-row'), byId('inputs')]) {
+    style.setProperty('--tiles', `${tall}px`);
+    style.setProperty('--inputs', `${below}px`);
   }
 }
 

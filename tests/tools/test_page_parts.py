@@ -272,7 +272,8 @@ class Parts(ToolCase):
             const runs = values[0].map(([values, busy]) => ({ values, last: 598123, forDeadLetters: ['failed'],
               consumers: ['packer', 'mailer'], busy: busy.map(([name, permille]) => ({ name, permille })) }));
             return runs.map(run => [sentenceOf(run), tilesOf(run)
-              .map(({ label, number, written, note }) => [label, number === null ? null : written(number), note])]);""",
+              .map(({ label, number, written, note, name }) => [label, number === null ? null : written(number),
+                note || name || ''])]);""",
                           runs)
         self.assertEqual([sentence for sentence, _ in told], [
             "In 9 min 58 s, 42 messages came into orders: 39 were deleted, 2 were dead-lettered to failed and 1 is left at "
@@ -283,9 +284,9 @@ class Parts(ToolCase):
             "In 9 min 58 s, no message came in."])
         self.assertEqual([tiles for _, tiles in told], [
             [["dead letters", "2", "in failed"], ["age at 95 %", "10.2 s", ""], ["handled again", "5", ""],
-             ["greatest backlog", "7", "at 1 min 1 s"], ["busiest consumer", "87 %", "(packer)"]],
+             ["greatest backlog", "7", "at 1 min 1 s"], ["busiest consumer", "87 %", "packer"]],
             [["dead letters", "2", "in failed"], ["age at 95 %", "11.0 s", "in mail"], ["handled again", "5", ""],
-             ["greatest backlog", "7", "in orders at 1 min 1 s"], ["busiest consumer", "90.1 %", "(mailer)"]],
+             ["greatest backlog", "7", "in orders at 1 min 1 s"], ["busiest consumer", "90.1 %", "mailer"]],
             [["dead letters", "0", ""], ["age at 95 %", None, ""], ["handled again", "0", ""],
              ["greatest backlog", "0", ""], ["busiest consumer", None, ""]]])
 
