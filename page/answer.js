@@ -3,7 +3,8 @@
 // All are of the numbers that the tables show.
 
 import { byId, element, setText } from './dom.js';
-import { said } from './scenario.js';
+import { written } from './numbers.js';
+import { agentsOf, said } from './scenario.js';
 import { named } from './tables.js';
 import { duration, grouped, several } from './units.js';
 
@@ -12,9 +13,14 @@ import { duration, grouped, several } from './units.js';
 /** @typedef {import('./scenario.js').Scenario} Scenario */
 /** @typedef {import('./side.js').Side} Side */
 /** @typedef {import('./side.js').Outcome} Outcome */
+/** What a scenario says of its parts: which queues only dead letters may come to, and the names of its consumers.
+ * @typedef {{ forDeadLetters: string[], consumers: string[] }} Roles */
+/** What a run says that has the roles of its scenario.
+ * @typedef {Pick<Outcome, 'values' | 'busy' | keyof Roles>} Told */
 /**
- * What a tile says: its number (null if there is none), how it is written, and a note.
- * @typedef {{ label: string, number: number | null, written: (number: number) => string, note: string }} Tile
+ * What a tile says: its number (null if there is none), how it is written, a note, and whose number it is.
+ * @typedef {{ label: string, number: number | null, written: (number: number) => string, note: string,
+ *   name?: string }} Tile
  */
 
 /** @template {string} Key @param {Record<Key, number>[]} queues @param {Key} key */
@@ -49,11 +55,32 @@ export function forDeadLetters(scenario) {
     typeof name === 'string' && !others.has(name) ? [name] : []);
 }
 
+/** @param {Scenario} scenario @returns {Roles} */
+export function rolesOf(scenario) {
+  const consumers = scenario.items('actor').filter(actor => said(actor, 'kind') === 'consumer').flatMap(actor => {
+    const name = said(actor, 'name');
+    return typeof name === 'string' ? agentsOf(actor, name) : [];
+  });
+  return { forDeadLetters: forDeadLetters(scenario), consumers };
+}
+
 // The queues that a reader asks about: all but those that only dead letters may come to, or all if there is no other.
 /** @param {Pick<Outcome, 'values' | 'forDeadLetters'>} result */
 export function mainQueues({ values, forDeadLetters }) {
   const others = values.filter(({ queue }) => !forDeadLetters.includes(queue));
   return others.length ? others : values;
+}
+
+// A consumer that is busy for more of a run than this, in thousandths, may never keep up.
+const BUSY_MOST = 900;
+/** @param {number} permille */
+const share = permille => written('busy_permille', permille);
+
+// The consumer that was busy for most of a run, the first of several; undefined if there is none.
+/** @param {Pick<Told, 'busy' | 'consumers'>} result */
+function busiestOf({ busy, consumers }) {
+  const names = new Set(consumers);
+  return greatestBy(busy.filter(({ name }) => names.has(name)), 'permille');
 }
 
 const ARROWS = { better: '↓ ', worse: '↑ ', '': '' };
@@ -62,10 +89,10 @@ const ARROWS = { better: '↓ ', worse: '↑ ', '': '' };
 const inQueues = names => names.length ? `in ${named(names)}` : '';
 
 // The tiles of a run: what each says, its number (null if there is none), how it is written, and a note.
-/** @param {Pick<Outcome, 'values' | 'forDeadLetters'>} result @returns {Tile[]} */
+/** @param {Told} result @returns {Tile[]} */
 export function tilesOf(result) {
   const { values } = result, queues = mainQueues(result), slowest = greatestBy(queues, 'age_p95_ms');
-  const deepest = greatestBy(queues, 'depth_greatest');
+  const deepest = greatestBy(queues, 'depth_greatest'), busiest = busiestOf(result);
   const noted = (/** @type {Values | undefined} */ queue) => queues.length > 1 && queue ? `in ${queue.queue}` : '';
   return [
     { label: 'dead letters', number: sumOf(values, 'dead_lettered'), written: grouped,
@@ -75,15 +102,15 @@ export function tilesOf(result) {
     { label: 'greatest backlog', number: deepest?.depth_greatest ?? 0, written: grouped,
       note: deepest?.depth_greatest ? `${noted(deepest)} at ${duration(deepest.depth_greatest_at_ms ?? 0)}`.trim()
         : '' },
-    { label: 'left at the end', number: sumOf(queues, 'left'), written: grouped,
-      note: inQueues(queues.filter(queue => queue.left).map(queue => queue.queue)) }];
+    { label: 'busiest consumer', number: busiest ? busiest.permille : null, written: share, note: '',
+      name: busiest?.name }];
 }
 
 /** @param {string[]} parts */
 const joined = parts => parts.length < 2 ? parts.join('') : `${parts.slice(0, -1).join(', ')} and ${parts.at(-1)}`;
 
 // What came out, in a sentence or two: of the one queue that is asked about, or of all of them together.
-/** @param {Pick<Outcome, 'values' | 'forDeadLetters' | 'last'>} result */
+/** @param {Told & Pick<Outcome, 'last'>} result */
 export function sentenceOf(result) {
   const { values, last } = result, queues = mainQueues(result), only = queues.length === 1 ? queues[0] : null;
   const came = only ? only.came_in : sumOf(queues, 'sent'), slowest = greatestBy(queues, 'age_p95_ms');
@@ -100,7 +127,10 @@ export function sentenceOf(result) {
     : `${several(came, 'message')} ${came === 1 ? 'was' : 'were'} sent to ${grouped(queues.length)} queues`;
   const ages = slowest ? ` 95 of 100 took at most ${duration(slowest.age_p95_ms ?? 0)}${only ? ''
     : ` in ${slowest.queue}, the slowest`}.` : '';
-  return `In ${duration(last ?? 0)}, ${begin}${parts.length ? `: ${joined(parts)}` : ''}.${ages}`;
+  const busiest = busiestOf(result), isOver = busiest && busiest.permille > BUSY_MOST;
+  const busy = isOver ? ` ${busiest.name} was busy ${share(busiest.permille)} of the time: over ${share(BUSY_MOST)}, `
+    + 'ages depend on how long the run is.' : '';
+  return `In ${duration(last ?? 0)}, ${begin}${parts.length ? `: ${joined(parts)}` : ''}.${ages}${busy}`;
 }
 
 // What a tile says of other seeds, whose words are left out where there is no place for them.
@@ -117,7 +147,7 @@ function spreadTold(range, text, count) {
 // than what is required. Less is better in each.
 /** @param {Tile} tile @param {Tile | undefined} before
  * @param {(text: (number: number | null) => string) => import('./dom.js').Part[]} told @param {boolean} isBroken */
-function tileOf({ label, number, written, note }, before, told, isBroken) {
+function tileOf({ label, number, written, note, name = '' }, before, told, isBroken) {
   const text = (/** @type {number | null | undefined} */ value) =>
     value === null || value === undefined ? 'none' : written(value);
   const isOther = before && text(before.number) !== text(number);
@@ -127,8 +157,8 @@ function tileOf({ label, number, written, note }, before, told, isBroken) {
   return element('div', { className: `tile ${sign} ${isBroken ? 'broken' : ''}` },
     element('span', { className: 'label' }, label,
       note ? element('span', { className: 'of', textContent: ` ${note}` }) : ''),
-    element('strong', { textContent: text(number) }), element('span', { className: 'was', textContent: !isOther ? ''
-      : `${ARROWS[sign]}from ${text(before.number)}` }),
+    element('strong', { textContent: text(number) }), element('span', { className: 'name', textContent: name }),
+    element('span', { className: 'was', textContent: !isOther ? '' : `${ARROWS[sign]}from ${text(before.number)}` }),
     element('span', { className: 'spread-of' }, ...told(text)));
 }
 

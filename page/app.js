@@ -237,6 +237,8 @@ async function showAll() {
   byId('results').hidden = byId('more-outputs').hidden = false;
   clearTimeout(settling);
   tiles = showAnswer(done, before, require);
+  // for those who measure when the first answer is there
+  if (!performance.getEntriesByName('answer').length) performance.mark('answer');
   curve.draw();
   // the worker counts what is drawn while the tables are made
   const isDrawn = pictures.show(done);
@@ -497,9 +499,11 @@ const titleOf = name => name.replace(/[.]toml$/, '').replaceAll('_', ' ');
 // Keeps the tiles, and the inputs as far as they fit, in view as the page scrolls: the lower end of inputs that are
 // longer than the window comes into view with the page, so that there is one scroll bar alone.
 function keepInView() {
-  const tall = byId('glance').offsetHeight, { style } = document.documentElement;
-  style.setProperty('--tiles', `${tall}px`);
-  style.setProperty('--inputs', `${Math.min(tall + 8, innerHeight - byId('inputs').offsetHeight)}px`);
+  const tall = byId('glance').offsetHeight, below = Math.min(tall + 8, innerHeight - byId('inputs').offsetHeight);
+  for (const { style } of [document.documentElement, byId('moment-row'), byId('inputs')]) {
+    style.setProperty('--tiles', `${tall}px`);
+    style.setProperty('--inputs', `${below}px`);
+  }
 }
 
 async function start() {

@@ -2,13 +2,13 @@
 // The curve of a slider: what comes out with ten of its values, each with some seeds. It draws the number of the answer
 // that is chosen for the requirement.
 
-import { forDeadLetters, tilesOf } from './answer.js';
+import { rolesOf, tilesOf } from './answer.js';
 import { Asker } from './asker.js';
 import { byId, count, drawn, selectById, setText, tableOf } from './dom.js';
 import { withSeedBehind, withValue } from './edits.js';
 import { LEFT, RIGHT } from './figure.js';
 import { written } from './numbers.js';
-import { AGE_TILE } from './require.js';
+import { AGE_TILE, BUSY_TILE } from './require.js';
 import { Scenario } from './scenario.js';
 import { rangeOf } from './seeds.js';
 import { FORESEEN_MOST, rowsAbout } from './side.js';
@@ -66,8 +66,7 @@ export class Curve {
         const over = { names: /** @type {string[]} */ ([]), from: 0, to: 1, columns: 1, bins: 1 };
         const answer = await this.asker.ask({ text: withSeedBehind(point.text, behind), files, over });
         if (turn !== this.turn) return;
-        const deadLetters = forDeadLetters(new Scenario(point.text));
-        if (answer.code === 0) point.tiles.push(tilesOf({ ...answer, forDeadLetters: deadLetters }));
+        if (answer.code === 0) point.tiles.push(tilesOf({ ...answer, ...rolesOf(new Scenario(point.text)) }));
       }
       this.done = behind + 1;
       this.draw();
@@ -111,9 +110,12 @@ export class Curve {
     const { ticks, unit } = ticksOf(0, most, 4, isTime);
     /** @type {SVGElement[]} */
     const parts = [];
-    for (const { at, text } of ticks) {
-      parts.push(drawn('line', { class: 'grid', x1: LEFT, x2: width - RIGHT, y1: y(at), y2: y(at) }),
-        drawn('text', { x: LEFT - 5, y: y(at) + 4, 'text-anchor': 'end' }, unit && at ? `${text} ${unit}` : text));
+    const told = this.require.tile === BUSY_TILE ? ({ at = 0 }) => write(at)
+      : ({ at = 0, text = '' }) => unit && at ? `${text} ${unit}` : text;
+    for (const tick of ticks) {
+      const height = y(tick.at);
+      parts.push(drawn('line', { class: 'grid', x1: LEFT, x2: width - RIGHT, y1: height, y2: height }),
+        drawn('text', { x: LEFT - 5, y: height + 4, 'text-anchor': 'end' }, told(tick)));
     }
     ranges.forEach(({ value }, i) => parts.push(drawn('text', { x: x(i), y: CURVE_HEIGHT - 6, 'text-anchor': 'middle',
       class: value === now ? 'caption' : '' }, width > 560 || i % 2 === 0 ? written(key.name, value) : '')));

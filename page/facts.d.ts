@@ -33,17 +33,8 @@ export interface Example {
 export const KEYS: Record<string, Key[]>;
 /** What tools/rehearse_tools/explain.py says of names, and of lists and their items by their kinds. */
 export const RULES: Record<'names' | 'lists' | 'forms' | 'rules', Record<string, string>>;
-/** The names of refusals of calls, and the kinds of actors. */
-export const REFUSALS: string[];
+/** The kinds of actors. */
 export const ACTORS: string[];
-/** The actions of SQS by the names of calls. */
-export const ACTIONS: Record<string, Action>;
-export type Action = 'SendMessage' | 'ReceiveMessage' | 'DeleteMessage' | 'ChangeMessageVisibility'
-  | 'StartMessageMoveTask' | 'CancelMessageMoveTask';
-/** What is counted of a queue by rows alone, as `send,new`. */
-export const BY_KIND: Record<ByKind, string[]>;
-export type ByKind = 'sent' | 'repeated_sends' | 'deleted' | 'receives' | 'failed_services' | 'forwarded' | 'moved_away'
-  | 'dead_lettered' | 'lost_by_expiry' | 'empty_receives';
 /** More messages than these that wait are a backlog. */
 export const BACKLOG: number;
 /** The lines that tools/summary prints of a queue, and the keys of those that are shares of what came in. */

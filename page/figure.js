@@ -214,12 +214,18 @@ export class Figure {
         : drawn('text', { class: className, x: LEFT + 4, y: y(most) - 3 }, text)];
   }
 
+  // What stands above a panel; that of a small picture names the queue, or one of two variants.
+  /** @param {Panel} panel @param {Side} side */
+  captionOf({ caption }, { name }) {
+    if (!this.room.only) return caption;
+    return this.shares.length > 1 ? `${name}: ${this.name}` : `${caption} in ${this.name}`;
+  }
+
   /** @param {Panel} panel @param {Share} share @param {number} top */
-  panel(panel, { data, spread }, top) {
+  panel(panel, { data, spread, side }, top) {
     const { width } = this.room, height = this.heightOf(panel), y = this.heights(panel, top, height);
     /** @type {SVGElement[]} */
-    const parts = [drawn('text', { class: 'caption', x: LEFT, y: top - 4 },
-      this.room.only ? `${panel.caption} in ${this.name}` : panel.caption)];
+    const parts = [drawn('text', { class: 'caption', x: LEFT, y: top - 4 }, this.captionOf(panel, side))];
     const required = this.required(panel.kind);
     if (required) parts.push(...this.lineOf(required, y, top));
     const { ticks, unit } = panel.isLog ? { unit: '', ticks: LOG_TICKS.filter(([at]) => at <= panel.most)
@@ -310,9 +316,9 @@ export class Figure {
     group('messages', PLACES.map(([kind, text], i) => !isThere(i) ? null
       : this.entry(kind, text, (data, share) => this.numberAt(data.places[i], share))));
     if (kinds.includes('ages')) {
-      group('age when deleted', [this.entry('age', '95 %', ({ ages }, share) => this.ageAt(ages[MOST_OF_THEM], share)),
+      group('age when deleted', [this.entry('age', '95 %', ({ ages }, share) => this.lastAge(ages[MOST_OF_THEM], share)),
         this.entry('age-band', 'middle to greatest', ({ ages }, share) => [MIDDLE, GREATEST].map(which =>
-          this.ageAt(ages[which], share)).join(' to ').replace('- to -', '-')),
+          this.lastAge(ages[which], share)).join(' to ').replace('- to -', '-')),
         this.entry('oldest', 'of the oldest', ({ oldest }, share) => this.ageAt(oldest.means, share))]);
     }
     if (kinds.includes('counts')) {
@@ -327,8 +333,7 @@ export class Figure {
   entry(kind, text, tellAt) {
     const value = element('span', { className: 'value' });
     this.values.push(share => {
-      const told = this.shares.map(({ data }) => data.places.length ? tellAt(data, share) : '-');
-      setText(value, told.every(it => it === '-') ? '' : told.join(' | '));
+      setText(value, this.shares.map(({ data }) => data.places.length ? tellAt(data, share) : '-').join(' | '));
     });
     return element('span', { className: `entry ${kind}` }, element('span', { className: 'swatch' }), `${text} `, value);
   }
@@ -358,6 +363,15 @@ export class Figure {
       line.setAttribute('x2', String(x));
     }
     for (const show of this.values) show(share);
+  }
+
+  // The age of those that were deleted last by a moment.
+  /** @param {ArrayLike<number>} ages @param {number} share */
+  lastAge(ages, share) {
+    for (let i = Math.min(ages.length - 1, Math.floor(share * ages.length)); i >= 0; i--) {
+      if (ages[i] >= 0) return duration(Math.round(ages[i]));
+    }
+    return '-';
   }
 
   // The numbers of a moment in words.

@@ -79,13 +79,14 @@ Tried rattle_realloc(u8 *p, u64 kept, u64 n, u64 align) {
 
 // The exports: room for so many bytes, 0 where memory is refused; a rehearsal; and a comparison of two. One that traps
 // leaves memory half written. The helpers of rattle-link say whether one is under way, so that a call after it traps
-// too. Version 3 of scenarios is read only if `preview` is not 0. Of the script files, `files` has the name of each and
-// the file behind it, and `lengths` how long both are.
+// too. Version 3 of scenarios is read only if the preview is asked for, and figures are written only if they are. Of the
+// script files, `files` has the name of each and the file behind it, and `lengths` how long both are.
 _Bool __rattle_enter(void);
 void __rattle_leave(void);
 void __rattle_trap(void);
 typedef struct { u64 name, file; } Lengths;
-unsigned sqs_page_rehearse_with_files(_Bool preview, const u8 *text, u64 length, const u8 *files, u64 bytes,
+typedef struct { _Bool preview, figures; u64 from, until, backlog, window; } Options;
+unsigned sqs_page_rehearse_with_files(const Options *options, const u8 *text, u64 length, const u8 *files, u64 bytes,
                                       const Lengths *lengths, u64 count, u8 *room, u64 size, u64 *needed);
 unsigned sqs_page_compare(_Bool preview, const u8 *first, u64 first_length, const u8 *second, u64 second_length,
                           const u8 *files, u64 bytes, const Lengths *lengths, u64 count, u8 *room, u64 size,
@@ -94,10 +95,10 @@ unsigned sqs_page_compare(_Bool preview, const u8 *first, u64 first_length, cons
 __attribute__((export_name("room"))) u8 *room(u64 n) { return take(n); }
 
 __attribute__((export_name("rehearse")))
-unsigned rehearse(unsigned preview, const u8 *text, u64 length, const u8 *files, u64 bytes, const Lengths *lengths,
-                  u64 count, u8 *room, u64 size, u64 *needed) {
+unsigned rehearse(const Options *options, const u8 *text, u64 length, const u8 *files, u64 bytes,
+                  const Lengths *lengths, u64 count, u8 *room, u64 size, u64 *needed) {
     if (__rattle_enter()) __rattle_trap();
-    unsigned answer = sqs_page_rehearse_with_files(preview != 0, text, length, files, bytes, lengths, count, room, size,
+    unsigned answer = sqs_page_rehearse_with_files(options, text, length, files, bytes, lengths, count, room, size,
                                                    needed);
     __rattle_leave();
     return answer;

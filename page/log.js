@@ -6,18 +6,19 @@
 
 import { textOf } from './units.js';
 
-export const COMMA = 44, DASH = 45, ZERO = 48, NINE = 57, QUOTE = 34, LINE_END = 10;
+export const ZERO = 48;
+const COMMA = 44, DASH = 45, NINE = 57, QUOTE = 34, LINE_END = 10;
 // A receipt is one number: that of the message times this, and the number of its receive.
 export const RECEIVES = 2 ** 21;
 
 /** @typedef {Uint8Array | Uint32Array | Int32Array | Float64Array} Kinds */
 /**
- * What rows share that have the same queue, agent, call and answer. `take` is called with a row of them.
- * @typedef {{ queue: import('./queue.js').Queue, number: number, agent: string, call: string, kind: string,
- *   times: Numbers<Uint32Array> | null, take: Taker,
- *   went?: { from: number, length: number, queue: import('./queue.js').Queue } }} Made
+ * What rows share that have the same queue, agent, call and answer. `take` is called with a row of them. `went` is
+ * where the last of them says to which queue its message went.
+ * @typedef {{ queue: import('./queue.js').Queue, number: number, agent: string, kind: string,
+ *   times: Numbers<Uint32Array> | null, take: Taker, went?: { from: number, length: number } }} Made
  */
-/** @typedef {Made & { from: number, length: number, rows: number }} Head */
+/** @typedef {Made & { from: number, length: number }} Head */
 /** @typedef {(queue: string, agent: string, call: string, answer: string) => Made} Making */
 /**
  * @typedef {(time: number, head: Head, message: number, receipt: number, from: number, to: number) => void} Taker
@@ -92,7 +93,7 @@ class Heads {
     if (!heads) this.byHash.set(hash, heads = []);
     for (const head of heads) if (this.isSame(head, from, to)) return head;
     const [queue, agent, call, answer] = fieldsOf(textOf(this.bytes, from, to - 1));
-    const head = { ...this.made(queue, agent, call, answer), from, length: to - from, rows: 0 };
+    const head = { ...this.made(queue, agent, call, answer), from, length: to - from };
     heads.push(head);
     return head;
   }
@@ -148,7 +149,6 @@ export function readRows(bytes, made) {
     const receipt = receiptAt(receiptFrom, head.number), detail = afterField(bytes, receiptFrom);
     at = detail;
     while (bytes[at] !== LINE_END) at++;
-    head.rows++;
     head.times?.push(time);
     head.take(time, head, message, receipt, detail, at);
     at++;
@@ -156,12 +156,20 @@ export function readRows(bytes, made) {
   return { starts: starts.whole, end: at, heads: heads.all, last: starts.length ? time : null };
 }
 
-// The records after a log whose first field is a word, as `report`, their header first; each is its fields.
-/** @param {Uint8Array} bytes @param {number} from @param {string} word */
-export function recordsOf(bytes, from, word) {
-  const records = [];
-  const sign = new TextEncoder().encode(`${word},`);
-  for (let at = from; at < bytes.length; at = afterLine(bytes, at)) {
+// Where the last line before a place begins that begins with some words.
+/** @param {Uint8Array} bytes @param {string} words @param {number} before */
+export function lastLine(bytes, words, before) {
+  const sign = new TextEncoder().encode(`\n${words}`);
+  let at = bytes.lastIndexOf(LINE_END, before - 1);
+  while (at >= 0 && !sign.every((byte, i) => bytes[at + i] === byte)) at = bytes.lastIndexOf(LINE_END, at - 1);
+  return at + 1;
+}
+
+// The records between two places whose first field is a word, as `report`, their header first; each is its fields.
+/** @param {Uint8Array} bytes @param {number} from @param {number} to @param {string} word */
+export function recordsOf(bytes, from, to, word) {
+  const records = [], sign = new TextEncoder().encode(`${word},`);
+  for (let at = from; at < to; at = afterLine(bytes, at)) {
     if (sign.every((byte, i) => bytes[at + i] === byte)) {
       records.push(fieldsOf(textOf(bytes, at, afterLine(bytes, at) - 1)));
     }

@@ -3,7 +3,7 @@
 // do the same at the same queue are one node.
 
 import { forDeadLetters } from './answer.js';
-import { said } from './scenario.js';
+import { agentsOf, said } from './scenario.js';
 
 /** @typedef {import('./scenario.js').Scenario} Scenario */
 /** @typedef {import('./scenario.js').Item} Item */
@@ -24,14 +24,6 @@ const nameIn = (item, key) => {
   const value = said(item, key);
   return typeof value === 'string' ? value : null;
 };
-
-/** The names of an actor in the log: those of its copies, if it has some.
- * @param {Item} actor @param {string} name */
-function agentsOf(actor, name) {
-  const copies = said(actor, 'copies');
-  return typeof copies === 'bigint' && copies > 0n && copies <= 1000n
-    ? Array.from({ length: Number(copies) }, (_, i) => `${name}-${i + 1}`) : [name];
-}
 
 /** The nodes and edges of a scenario. What has no name, or names no queue, is left out.
  * @param {Scenario} scenario

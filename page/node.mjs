@@ -9,11 +9,12 @@ import { fileURLToPath } from 'node:url';
 import { gunzipSync } from 'node:zlib';
 
 import { Scenario, said } from './scenario.js';
-import { answered, lineOf } from './simulator.js';
+import { WHOLE_RUN, answered, lineOf } from './simulator.js';
 
 const TOP = path.dirname(path.dirname(fs.realpathSync(fileURLToPath(import.meta.url))));
 const PAGE = path.join(TOP, 'dist', 'playground.html');
-const USAGE = `Usage: sqs_rehearse run [--log FILE] [--scripts DIR] [--preview] [--quiet] [SCENARIO]
+const USAGE = `Usage: sqs_rehearse run [--log FILE] [--scripts DIR] [--preview] [--figures] [--from MS] [--to MS]
+                        [--backlog N] [--window-figures MS] [--quiet] [SCENARIO]
        sqs_rehearse check [--scripts DIR] [--preview] [SCENARIO]
        sqs_rehearse compare [--scripts DIR] [--preview] FIRST SECOND
 
@@ -26,8 +27,9 @@ const COMMANDS = { check: SCRIPTS, compare: { ...SCRIPTS, least: 2, most: 2 },
   run: { ...SCRIPTS, texts: ['scripts', 'log', 'map'],
     numbers: ['window', 'parts', 'workers', 'from', 'to', 'backlog', 'window-figures'],
     flags: ['figures', 'preview', 'quiet'] } };
-// What only the program itself does.
-const OWN = ['figures', 'from', 'to', 'backlog', 'window-figures'];
+// What asks for figures.
+const OF_FIGURES = ['figures', 'from', 'to', 'backlog', 'window-figures'];
+const NUMBER_MOST = 2n ** 64n - 1n;
 const DONE = 0, SECOND_REFUSED = 6;
 const IN_RUN = 30, OF_WRITING = 36;
 // Where the log ends: the header of the final queues.
@@ -118,6 +120,8 @@ async function simulator() {
   return WebAssembly.compile(gunzipSync(Buffer.from(packed, 'base64')));
 }
 
+const isNumber = text => /^\+?[0-9]+$/.test(text) && BigInt(text.replace('+', '')) <= NUMBER_MOST;
+
 // The words of a command by the names of its options, and those that are no options as `paths`.
 function optionsOf(command, words) {
   const { texts, numbers, flags, least, most } = COMMANDS[command], options = { paths: [], scripts: '.' };
@@ -129,12 +133,19 @@ function optionsOf(command, words) {
     else if (flags.includes(name) && value === undefined) options[name] = true;
     else if (!texts.includes(name) && !numbers.includes(name)) throw usage(`unexpected argument '${words[at]}' found`);
     else if ((options[name] = value ?? words[++at]) === undefined) throw usage(`a value is required for '--${name}'`);
-    else if (numbers.includes(name) && !/^\+?[0-9]+$/.test(options[name])) throw usage(`'--${name}' takes a number`);
+    else if (numbers.includes(name) && !isNumber(options[name])) throw usage(`'--${name}' takes a number`);
   }
   if (options.paths.length < least || options.paths.length > most) throw usage(`${command} takes other words`);
-  const own = OWN.find(name => options[name] !== undefined);
-  if (own) throw new Stop(2, `sqs_rehearse: the page's module writes no figures, and takes no --${own}`);
   return options;
+}
+
+// What is wanted of figures by the options of a run; null if it asks for none.
+function wantedBy(options) {
+  if (OF_FIGURES.every(name => options[name] === undefined)) return null;
+  const given = (name, other) => options[name] === undefined ? other : BigInt(options[name].replace('+', ''));
+  const last = given('to', NUMBER_MOST);
+  return { from: given('from', WHOLE_RUN.from), until: last < NUMBER_MOST ? last + 1n : last,
+    backlog: given('backlog', WHOLE_RUN.backlog), window: given('window-figures', WHOLE_RUN.window) };
 }
 
 // The script files that scenarios name, as far as they can be read.
@@ -158,14 +169,14 @@ function refusal(code, bytes) {
 }
 
 // The bytes of a run, or why it is refused. Version 3 is read only if the preview is asked for.
-async function ran(compiled, text, files, isPreview) {
-  const { code, bytes } = await answered(compiled, 'rehearse', isPreview, [text], files);
+async function ran(compiled, text, files, isPreview, figures = null) {
+  const { code, bytes } = await answered(compiled, 'rehearse', { isPreview, figures }, [text], files);
   if (code !== DONE) throw refusal(code, bytes);
   return Buffer.from(bytes.buffer, bytes.byteOffset, bytes.length);
 }
 
-async function run(compiled, { paths: [name = '-'], scripts, log, preview = false }) {
-  const text = read(name), whole = await ran(compiled, text, filesOf([text], scripts), preview);
+async function run(compiled, { paths: [name = '-'], scripts, log, preview = false, ...options }) {
+  const text = read(name), whole = await ran(compiled, text, filesOf([text], scripts), preview, wantedBy(options));
   if (log === undefined) return write(1, whole);
   let file;
   try {
@@ -212,7 +223,7 @@ async function compare(compiled, { paths, scripts, preview = false }) {
     throw error;
   }
   const texts = [first, second];
-  const { code, bytes } = await answered(compiled, 'compare', preview, texts, filesOf(texts, scripts));
+  const { code, bytes } = await answered(compiled, 'compare', { isPreview: preview }, texts, filesOf(texts, scripts));
   if (code !== DONE) throw refusal(code === SECOND_REFUSED ? 1 : code, bytes);
   write(1, bytes);
 }

@@ -105,7 +105,7 @@ export class Pictures {
     const weights = new Map();
     for (const { outcome } of this.sides) {
       outcome.values.forEach(({ queue }, i) =>
-        weights.set(queue, Math.max(weights.get(queue) ?? 0, outcome.busiest[i])));
+        weights.set(queue, Math.max(weights.get(queue) ?? 0, outcome.changes[i])));
     }
     const names = [...weights.keys()], least = [...weights.values()].sort((a, b) => b - a)[QUEUES_MOST - 1] ?? 0;
     const chosen = names.filter(name => (weights.get(name) ?? 0) >= least).slice(0, QUEUES_MOST);
@@ -136,14 +136,15 @@ export class Pictures {
   }
 
   // Draws one queue small, for narrow screens, where it stays in view above the sliders: that with the greatest
-  // backlog.
+  // backlog, of each variant.
   /** @param {string[]} names @param {(name: string) => import('./figure.js').Share[]} sharesOf
    * @param {import('./figure.js').Room} room */
   glance(names, sharesOf, room) {
     const { outcome } = this.sides[this.sides.length - 1], only = this.require.panel ?? 'places';
     const deepest = greatestBy(mainQueues(outcome).filter(({ queue }) => names.includes(queue)), 'depth_greatest');
-    const figure = deepest && new Figure(deepest.queue, sharesOf(deepest.queue).slice(-1), { ...room, only, end: '' });
-    byId('glance-picture').replaceChildren(...figure ? [figure.box.querySelector('svg') ?? ''] : []);
+    const width = Math.floor(Math.min(room.width, (this.width - 8) / this.sides.length));
+    const figure = deepest && new Figure(deepest.queue, sharesOf(deepest.queue), { ...room, width, only, end: '' });
+    byId('glance-picture').replaceChildren(...figure ? figure.box.querySelectorAll('svg') : []);
     if (figure) this.figures.push(figure);
   }
 

@@ -1,23 +1,13 @@
 // @ts-check
-// What the rows of one queue say: the numbers of tools/summary, and what changes when. What is counted, and by which
-// rows, is written in tools/summary; the tests compare the numbers.
+// What the rows of one queue say: what changes when, and how often its messages were handled and received. What counts
+// as handled is written in tools/summary; the tests compare the numbers.
 
-import { BACKLOG } from './facts.js';
 import { Numbers, RECEIVES } from './log.js';
 
 export const VISIBLE = 0, IN_FLIGHT = 1, DELAYED = 2, NOWHERE = 3;
 // A change is four times the place that a message leaves and the place that it comes to.
 export const ENTERED = 4 * NOWHERE + VISIBLE, ENTERED_DELAYED = 4 * NOWHERE + DELAYED;
 const GONE = -1 - NOWHERE;
-export const WAITING = -1;
-// Of ages of new and of moved messages so many leading bits are kept.
-const AGE_BITS = 16;
-
-/** @param {number} age */
-export const leading = age => {
-  const shift = Math.max(0, 32 - Math.clz32(age) - AGE_BITS);
-  return age >= 2 ** 32 ? age : (age >>> shift) * 2 ** shift;
-};
 
 export class Queue {
   /** @param {string} name @param {number} number */
@@ -25,40 +15,27 @@ export class Queue {
     this.name = name;
     this.number = number;
     // by the number of a message: when it came, its place as -1 - place or the index of its coming in `changes` if it
-    // has not moved since, its receives, how many of them were handled, and whether a move task brought it
+    // has not moved since, its receives, how many of them were handled, and which of them deleted it
     this.came = new Numbers(Uint32Array);
     this.stands = new Numbers(Int32Array);
     this.receives = new Numbers(Uint32Array);
     this.handled = new Numbers(Uint32Array);
-    this.isMoved = new Numbers(Uint8Array);
+    this.deletedBy = new Numbers(Uint32Array);
     this.times = new Numbers(Uint32Array);
     this.changes = new Numbers(Uint8Array);
     this.deletedAt = new Numbers(Uint32Array);
     this.ages = new Numbers(Uint32Array);
-    this.movedAges = new Numbers(Uint32Array);
     this.redrivenAt = new Numbers(Uint32Array);
     this.expiredAt = new Numbers(Uint32Array);
     // when the oldest message became another, and when that one had come; -1 if there is none
     this.oldestAt = new Numbers(Uint32Array);
     this.sinces = new Numbers(Float64Array);
     this.oldest = 0;
-    // receipts that were not used yet, and the last answer that an agent had
+    // receipts that were used, but for those that deleted a message
     /** @type {Set<number>} */
-    this.receipts = new Set();
-    /** @type {Map<string, number>} */
-    this.polls = new Map();
-    this.left = this.inFlight = this.onTheirWay = this.polled = 0;
-    this.byForward = this.byMove = this.received = this.handledOnce = this.handledMore = this.ageSum = 0;
+    this.used = new Set();
+    this.onTheirWay = this.received = this.handledOnce = this.handledMore = 0;
     this.triesMost = this.timesHandledMost = 1;
-    this.depth = 0;
-    /** @type {number | null} */
-    this.depthAt = null;
-    /** @type {number | null} */
-    this.filledAt = null;
-    /** @type {number | null} */
-    this.backlogSince = null;
-    /** @type {number | null} */
-    this.backlogGone = null;
     /** @type {Set<string>} */
     this.deadLetteredTo = new Set();
     /** @type {Set<string>} */
@@ -89,60 +66,34 @@ export class Queue {
     this.came.push(time);
     this.receives.push(0);
     this.handled.push(0);
-    this.isMoved.push(0);
+    this.deletedBy.push(0);
     this.changed(time, ENTERED);
-    if (!this.left) this.filledAt = time;
-    if (++this.left > this.depth) [this.depth, this.depthAt] = [this.left, time];
-    this.notesBacklog(time);
-  }
-
-  // Whether more wait than are no backlog, from a moment on.
-  /** @param {number} time */
-  notesBacklog(time) {
-    const is = this.left - this.inFlight > BACKLOG;
-    if (is && this.backlogSince === null) this.backlogSince = time;
-    if (!is && this.backlogSince !== null) [this.backlogSince, this.backlogGone] = [null, time];
   }
 
   /** @param {number} time @param {number} message */
   leaves(time, message) {
-    const stands = this.stands.items;
-    if (stands[message] === -1 - IN_FLIGHT) this.inFlight--;
     this.put(time, message, NOWHERE);
-    this.isMoved.items[message] = 0;
-    if (--this.left === 0) this.filledAt = null;
-    this.notesBacklog(time);
-    if (message === this.oldest) {
-      let next = message;
-      while (next < this.stands.length && stands[next] === GONE) next++;
-      this.oldest = next;
-      this.oldestAt.push(time);
-      this.sinces.push(next < this.stands.length ? this.came.items[next] : -1);
-    }
+    if (message !== this.oldest) return;
+    const stands = this.stands.items;
+    let next = message;
+    while (next < this.stands.length && stands[next] === GONE) next++;
+    this.oldest = next;
+    this.oldestAt.push(time);
+    this.sinces.push(next < this.stands.length ? this.came.items[next] : -1);
   }
 
-  /** @param {number} time @param {string} agent @param {number} message @param {number} receipt */
-  receivesOne(time, agent, message, receipt) {
+  /** @param {number} time @param {number} message */
+  receivesOne(time, message) {
     const tries = ++this.receives.items[message];
     this.put(time, message, IN_FLIGHT);
-    this.inFlight++;
-    this.notesBacklog(time);
-    this.receipts.add(receipt);
     if (tries === 1) this.received++;
     else if (tries > this.triesMost) this.triesMost = tries;
-    const answered = this.polls.get(agent);
-    if (answered === time) return;
-    this.polls.set(agent, time);
-    if (answered !== WAITING) this.polled++;
   }
 
   /** @param {number} time @param {number} message */
   releases(time, message) {
-    const stands = this.stands.items[message];
-    if (stands === -1 - IN_FLIGHT) this.inFlight--;
     this.wasDelayed(message);
     this.put(time, message, VISIBLE);
-    this.notesBacklog(time);
   }
 
   // Takes in, if a message has not moved since it came, that it has been delayed since.
@@ -152,6 +103,13 @@ export class Queue {
     if (stands < 0) return;
     this.changes.items[stands] = ENTERED_DELAYED;
     this.stands.items[message] = -1 - DELAYED;
+  }
+
+  // How many messages are in each place at the end.
+  get places() {
+    const places = [0, 0, 0, 0];
+    for (const stands of this.stands.whole) places[stands >= 0 ? VISIBLE : -1 - stands]++;
+    return places;
   }
 
   /** @param {number} message */
@@ -166,16 +124,18 @@ export class Queue {
   deletes(time, message, receipt, age) {
     this.ages.push(age);
     this.deletedAt.push(time);
-    this.ageSum += age;
-    if (this.isMoved.items[message]) this.movedAges.push(age);
-    this.receipts.delete(receipt);
+    this.deletedBy.items[message] = receipt % RECEIVES;
     this.leaves(time, message);
     this.handles(message);
   }
 
-  // A call of delete that deleted nothing: it may still be the first with its receipt.
+  // A call of delete that deleted nothing: it may still be the first with its receipt, if that was given.
   /** @param {number} receipt */
   usesReceipt(receipt) {
-    if (this.receipts.delete(receipt)) this.handles(Math.floor(receipt / RECEIVES));
+    const message = Math.floor(receipt / RECEIVES), receive = receipt % RECEIVES;
+    if (!(receive <= this.receives.items[message]) || receive === 0 || this.deletedBy.items[message] === receive
+      || this.used.has(receipt)) return;
+    this.used.add(receipt);
+    this.handles(message);
   }
 }

@@ -8,9 +8,9 @@ import { duration, grouped } from './units.js';
 /** @typedef {import('./answer.js').Tile} Tile */
 
 // What each tile is, by its place: how its number is written and read, and the panel in which it is a line.
-export const AGE_TILE = 1, BACKLOG_TILE = 3;
+export const AGE_TILE = 1, BACKLOG_TILE = 3, BUSY_TILE = 4;
 /** @param {number} tile */
-const TILE_KEY = tile => tile === AGE_TILE ? 'age_ms' : 'count';
+const TILE_KEY = tile => tile === AGE_TILE ? 'age_ms' : tile === BUSY_TILE ? 'busy_permille' : 'count';
 
 export class Requirement {
   // `changed` is called as another one is required.

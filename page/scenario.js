@@ -224,3 +224,11 @@ export class Scenario {
 // What a node of a table says, or undefined.
 /** @param {Item | undefined} table @param {string} key @returns {unknown} */
 export const said = (table, key) => table && table.type === 'table' ? table.value.get(key)?.value : undefined;
+
+/** The names of an actor in the log: those of its copies, if it has some.
+ * @param {Item} actor @param {string} name */
+export function agentsOf(actor, name) {
+  const copies = said(actor, 'copies');
+  return typeof copies === 'bigint' && copies > 0n && copies <= 1000n
+    ? Array.from({ length: Number(copies) }, (_, i) => `${name}-${i + 1}`) : [name];
+}

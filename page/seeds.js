@@ -105,11 +105,11 @@ export class Seeds {
     const spreads = [];
     if (!sides.every(({ outcome }) => outcome.starts.length <= QUICK_ROWS)) return;
     for (const side of sides) {
-      const spread = new Spread(question), { ran, files, outcome: { forDeadLetters } } = side;
+      const spread = new Spread(question), { ran, files, outcome: { forDeadLetters, consumers } } = side;
       for (let behind = 0; behind < SEEDS; behind++) {
         const answer = await this.asker.ask({ text: withSeedBehind(ran ?? '', behind), files, over: question });
         if (turn !== this.turn || answer.code !== 0) return;
-        spread.add(tilesOf({ ...answer, forDeadLetters }), answer.queues);
+        spread.add(tilesOf({ ...answer, forDeadLetters, consumers }), answer.queues);
       }
       spreads.push(spread);
     }

@@ -1,7 +1,7 @@
 // @ts-check
 // A variant of the scenario: its text and its script files, the worker that runs it, and what came out.
 
-import { forDeadLetters } from './answer.js';
+import { rolesOf } from './answer.js';
 import { Asker } from './asker.js';
 import { SHORT_LINES, SHORT_MOST, isShort } from './editor.js';
 import { Scenario, said } from './scenario.js';
@@ -9,7 +9,7 @@ import { grouped } from './units.js';
 
 /** @typedef {import('./scenario.js').Item} Item */
 /** @typedef {import('./link.js').File} File */
-/** @typedef {import('./worker.js').Answer & { forDeadLetters: string[] }} Outcome */
+/** @typedef {import('./worker.js').Answer & import('./answer.js').Roles} Outcome */
 
 // A run of more rows does not begin by itself, as far as they can be foreseen.
 export const FORESEEN_MOST = 2e6;
@@ -99,7 +99,7 @@ export class Side {
     this.began = this.spread = null;
     this.ran = text;
     this.error = answer.error ?? '';
-    this.result = answer.error ? null : { ...answer, forDeadLetters: forDeadLetters(new Scenario(text)) };
+    this.result = answer.error ? null : { ...answer, ...rolesOf(new Scenario(text)) };
     this.changed(this);
   }
 

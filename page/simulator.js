@@ -3,6 +3,12 @@
 
 /** @typedef {{ name: string | Uint8Array, bytes: string | Uint8Array }} File */
 /**
+ * What figures are over, and what a backlog and a window of them is: numbers of 64 bits.
+ * @typedef {{ from: bigint, until: bigint, backlog: bigint, window: bigint }} Wanted
+ */
+/** Whether version 3 is read, and which figures follow the report, if any.
+ * @typedef {{ isPreview: boolean, figures?: Wanted | null }} Choice */
+/**
  * What the module exports: a room of so many bytes, where it is; and two calls, which give a code.
  * @typedef {{ memory: WebAssembly.Memory, room(size: bigint): bigint,
  *   rehearse(...words: (number | bigint)[]): number, compare(...words: (number | bigint)[]): number }} Exports
@@ -13,6 +19,10 @@ export const DONE = 0, NO_ROOM = 2, NO_MEMORY = 3, NO_LINE = 4, NO_FILES = 5, SE
 // The first room for the output. Memory that nothing writes to costs nothing, and a run whose room is too short is run
 // again.
 export const ROOM = 2n ** 30n - 64n, LEAST_ROOM = 2n ** 22n;
+/** What the program wants of figures if it is not told more: the whole run, backlogs of more than ten messages, and
+ * windows of five minutes.
+ * @type {Wanted} */
+export const WHOLE_RUN = { from: 0n, until: 2n ** 64n - 1n, backlog: 10n, window: 300000n };
 
 /** @param {WebAssembly.Module} module @returns {Promise<Exports>} */
 const instanceOf = module => WebAssembly.instantiate(module, {}).then(({ exports }) => /** @type {any} */ (exports));
@@ -43,6 +53,15 @@ function laidOut(files) {
   return { whole, lengths: new Uint8Array(new BigUint64Array(parts.map(part => BigInt(part.length))).buffer) };
 }
 
+// A choice as the module is given it: two bytes that say whether, and four numbers.
+/** @param {Choice} choice */
+function packedChoice({ isPreview, figures = null }) {
+  const { from, until, backlog, window } = figures ?? WHOLE_RUN, packed = new Uint8Array(40);
+  packed.set([Number(isPreview), Number(figures !== null)]);
+  new BigUint64Array(packed.buffer, 8).set([from, until, backlog, window]);
+  return packed;
+}
+
 // Copies bytes into the memory of an instance, and gives where they are.
 /** @param {Exports} it @param {Uint8Array} bytes */
 function placed(it, bytes) {
@@ -52,17 +71,17 @@ function placed(it, bytes) {
   return at;
 }
 
-// Calls an export of a compiled module with texts and script files, and says whether version 3 may be read. Gives the
-// code, the bytes of the answer, and the milliseconds.
-/** @param {WebAssembly.Module} compiled @param {'rehearse' | 'compare'} call @param {boolean} isPreview
+// Calls an export of a compiled module with a choice, texts and script files. Gives the code, the bytes of the answer,
+// and the milliseconds.
+/** @param {WebAssembly.Module} compiled @param {'rehearse' | 'compare'} call @param {Choice} choice
  * @param {(string | Uint8Array)[]} texts @param {File[]} files */
-export async function answered(compiled, call, isPreview, texts, files) {
+export async function answered(compiled, call, choice, texts, files) {
   const { whole, lengths } = laidOut(files), parts = [...texts.map(encoded), whole];
   for (let wanted = ROOM; ;) {
     const { it, room, size } = await roomy(compiled, wanted), needed = placed(it, new Uint8Array(8));
+    const chosen = call === 'rehearse' ? placed(it, packedChoice(choice)) : Number(choice.isPreview);
     const given = [...parts.flatMap(part => [placed(it, part), BigInt(part.length)]), placed(it, lengths)];
-    const began = performance.now(), code = it[call](Number(isPreview), ...given, BigInt(files.length), room, size,
-      needed);
+    const began = performance.now(), code = it[call](chosen, ...given, BigInt(files.length), room, size, needed);
     const took = performance.now() - began;
     if (code === NO_FILES) throw new Error('The script files were not handed over well.');
     const length = new DataView(it.memory.buffer).getBigUint64(Number(needed), true);

@@ -8,7 +8,7 @@
 import { momentsOf } from './moments.js';
 import { overTime } from './overtime.js';
 import { Run } from './run.js';
-import { DONE, SECOND_REFUSED, answered, lineOf, toldOf } from './simulator.js';
+import { DONE, SECOND_REFUSED, WHOLE_RUN, answered, lineOf, toldOf } from './simulator.js';
 
 /** @typedef {import('./simulator.js').File} File */
 /**
@@ -17,10 +17,11 @@ import { DONE, SECOND_REFUSED, answered, lineOf, toldOf } from './simulator.js';
  *   moments?: import('./moments.js').MomentQuestion }} Question
  */
 /**
- * What came out of a run that was not refused: the bytes and where rows begin, and the numbers of its queues.
+ * What came out of a run that was not refused: the bytes and where rows begin, the numbers of its queues, how often each
+ * changes, and how busy its other agents were.
  * @typedef {{ took: number, read: number, bytes: Uint8Array, starts: Uint32Array, end: number,
- *   values: import('./run.js').Values[], busiest: number[], last: number | null, moved: number,
- *   isEmpty: boolean }} Result
+ *   values: import('./run.js').Values[], changes: number[], busy: import('./figures.js').Busy[], last: number | null,
+ *   moved: number }} Result
  */
 /**
  * @typedef {Result & { code: number, line: string, isSecond: boolean, error: string,
@@ -35,21 +36,20 @@ let last = null;
 /** @param {string} text @param {File[]} files @param {boolean} isPreview */
 async function run(text, files, isPreview) {
   last = null;
-  const { code, took, bytes } = await answered(compiled, 'rehearse', isPreview, [text], files);
+  const { code, took, bytes } = await answered(compiled, 'rehearse', { isPreview, figures: WHOLE_RUN }, [text], files);
   if (code !== DONE) return { code, took, line: lineOf(code, bytes) };
   const began = performance.now();
   last = new Run(bytes);
-  const values = last.values(), { starts, end } = last;
-  const busiest = last.queues.map(queue => queue.times.length);
+  const values = last.values(), { starts, end, busy, moved } = last;
+  const changes = last.queues.map(queue => queue.times.length);
   last.bytes = new Uint8Array();
-  return { code, took, read: performance.now() - began, bytes, starts, end, values, busiest, last: last.last,
-    moved: last.moved, isEmpty: last.queues.every(queue => !queue.left) };
+  return { code, took, read: performance.now() - began, bytes, starts, end, values, changes, busy, last: last.last, moved };
 }
 
 // The comparison of two scenarios; or the line of the one that is refused, and whether it is the second.
 /** @param {string[]} texts @param {File[]} files @param {boolean} isPreview */
 async function compare(texts, files, isPreview) {
-  const { code, bytes } = await answered(compiled, 'compare', isPreview, texts, files);
+  const { code, bytes } = await answered(compiled, 'compare', { isPreview }, texts, files);
   return code === DONE ? { code, bytes } : { code, line: lineOf(code, bytes), isSecond: code === SECOND_REFUSED };
 }
 
@@ -62,8 +62,8 @@ async function answerTo({ module, text, texts, files = [], over, moments, previe
   if (moments) return { moments: last ? momentsOf(last, moments) : { queues: [], rows: [] } };
   if (texts) return compare(texts, files, preview);
   if (text !== undefined && over) {
-    const { code, values, last: lasts } = await run(text, files, preview);
-    return last ? { code, values, last: lasts, queues: overTime(last, over.names, over) } : { code };
+    const { code, values, busy } = await run(text, files, preview);
+    return last ? { code, values, busy, queues: overTime(last, over.names, over) } : { code };
   }
   return over ? { queues: last ? overTime(last, over.names, over) : [] } : run(text ?? '', files, preview);
 }

@@ -15,7 +15,7 @@ from collections.abc import Iterable
 from typing import Any
 
 import release
-from rehearse_tools import explain, logs, scripts, summaries
+from rehearse_tools import explain, scripts, summaries
 from rehearse_tools.console import Fault, read_bytes, read_text, write_bytes
 from rehearse_tools.keys import ACTORS, ITEMS, VERSIONS, Key, keys_of
 from rehearse_tools.programs import TOP
@@ -131,14 +131,13 @@ def rules() -> dict[str, dict[str, str]]:
     return {"names": explain.NAMES, "lists": explain.LISTS, "forms": explain.ITEM_FORMS, "rules": explain.ITEM_RULES}
 
 
-def counted() -> dict[str, Any]:
-    """What tools/summary counts and prints: the names of refusals, the actions of SQS by the names of calls, what is
-    counted by which rows, and the lines of a queue, each with the name of what writes its number."""
-    return {"REFUSALS": logs.REFUSALS, "ACTIONS": summaries.ACTIONS, "BACKLOG": summaries.BACKLOG,
-            "BY_KIND": {key: sorted(map(",".join, rows)) for key, rows in summaries.BY_KIND.items()},
-            "SHARES": summaries.SHARES, "LINES": [{"key": line.key, "label": line.label, "always": line.always,
-                                                   "written": line.written.__name__} for line in summaries.LINES],
-            "ACTORS": list(ACTORS), "SCRIPT_HEADER": ",".join(scripts.HEADER)}
+def printed_by_summary() -> dict[str, Any]:
+    """What tools/summary prints: the lines of a queue, each with the name of what writes its number, and which are shares
+    of what came in. And the kinds of actors, and the first record of a script."""
+    lines = [{"key": line.key, "label": line.label, "always": line.always, "written": line.written.__name__}
+             for line in summaries.LINES]
+    return {"BACKLOG": summaries.BACKLOG, "SHARES": summaries.SHARES, "LINES": lines, "ACTORS": list(ACTORS),
+            "SCRIPT_HEADER": ",".join(scripts.HEADER)}
 
 
 def write_modules(folder: str) -> None:
@@ -146,7 +145,7 @@ def write_modules(folder: str) -> None:
     for name in sorted(os.listdir(PARTS)):
         if name.endswith(".js") or name == "package.json":
             write_bytes(os.path.join(folder, name), read_bytes(os.path.join(PARTS, name)))
-    facts = {"KEYS": keys(), "RULES": rules(), "EXAMPLES": examples(), "FIRST": FIRST, **counted()}
+    facts = {"KEYS": keys(), "RULES": rules(), "EXAMPLES": examples(), "FIRST": FIRST, **printed_by_summary()}
     text = "".join(f"export const {name} = {as_json(value)};\n" for name, value in facts.items())
     write_bytes(os.path.join(folder, "facts.js"), text.encode())
 

@@ -189,6 +189,32 @@ class Parts(ToolCase):
         told = self.asked(PAGE, "return values[0].map(([text, line]) => new Fault(text, line, []).reason);", asked)
         self.assertEqual(told, wanted)
 
+    def test_figures(self) -> None:
+        """Each figure is of its queue or agent, and one without a value is none; a line is found behind the log."""
+        text = "0,q,a\nreport,queue,x\nreport,q,1\nfigure,of,name,value\nfigure,q,left,3\nfigure,q,age_p95_ms,\nfigure,c,busy_ms,5\n"
+        told = self.asked(("log", "simulator", "figures"), """
+            const bytes = encoded(values[0]), at = lastLine(bytes, 'figure,of,', bytes.length);
+            return [at, lastLine(bytes, 'report,queue,', at), [...figuresIn(bytes, at)],
+              recordsOf(bytes, 6, at, 'report')];""", text)
+        self.assertEqual(told, [text.index("figure"), text.index("report"), [
+            ["q", {"left": 3, "age_p95_ms": None}], ["c", {"busy_ms": 5}]], [["report", "queue", "x"], ["report", "q", "1"]]])
+
+    def test_handled_again(self) -> None:
+        """A message is handled by each receipt that is given and first used to delete, unless its service failed."""
+        told = self.asked(("log", "queue"), """
+            const queue = new Queue('q', 0), at = receive => 1 * RECEIVES + receive;
+            queue.enters(0, 0);
+            queue.enters(0, 1);
+            for (let receive = 1; receive < 5; receive++) queue.receivesOne(receive, 1);
+            queue.used.add(at(1));
+            for (const receive of [1, 2, 2, 9, 0]) queue.usesReceipt(at(receive));
+            queue.usesReceipt(-1);
+            const before = [queue.handledOnce, queue.handledMore];
+            queue.deletes(9, 1, at(4), 9);
+            for (const receive of [4, 3, 3]) queue.usesReceipt(at(receive));
+            return [before, [queue.handledOnce, queue.handledMore], queue.timesHandledMost, queue.triesMost, queue.places];""")
+        self.assertEqual(told, [[1, 0], [0, 1], 3, 4, [1, 0, 0, 1]])
+
     def test_quoted_fields(self) -> None:
         """Behind a field and its comma begins the next one; a quote within quotes is doubled."""
         fields = {'"a""b",x': 7, '"",x': 3, '"""",x': 5, "ab,x": 3, ",x": 1, '"a,b",x': 6}
@@ -223,7 +249,7 @@ class Parts(ToolCase):
               return DONE;
             };
             WebAssembly.instantiate = async () => ({ exports: { memory, room, rehearse } });
-            const { code, bytes } = await answered(null, 'rehearse', true, ['a'], []);
+            const { code, bytes } = await answered(null, 'rehearse', { isPreview: true }, ['a'], []);
             return [code, new TextDecoder().decode(bytes), rooms.includes(Number(ROOM)), rooms.includes(5)];""")
         self.assertEqual(told, [0, "whole", True, True])
 
@@ -240,25 +266,29 @@ class Parts(ToolCase):
         failed = self.values("failed", came_in=2, left=2, depth_greatest=9, depth_greatest_at_ms=3, age_p95_ms=99_999)
         mail = self.values("mail", came_in=39, came_by_forward=39, deleted=39, age_p95_ms=11_000, lost_by_expiry=1,
                            depth_greatest=7, depth_greatest_at_ms=5)
-        runs = ([orders, failed], [orders, failed, mail], [self.values("q")])
+        runs = ([[orders, failed], [["packer", 870]]], [[orders, failed, mail], [["packer", 870], ["mailer", 901]]],
+                [[self.values("q")], [["site", 996]]])
         told = self.asked(ANSWER, """
-            const runs = values[0].map(values => ({ values, last: 598123, forDeadLetters: ['failed'] }));
+            const runs = values[0].map(([values, busy]) => ({ values, last: 598123, forDeadLetters: ['failed'],
+              consumers: ['packer', 'mailer'], busy: busy.map(([name, permille]) => ({ name, permille })) }));
             return runs.map(run => [sentenceOf(run), tilesOf(run)
-              .map(({ label, number, written, note }) => [label, number === null ? null : written(number), note])]);""",
+              .map(({ label, number, written, note, name }) => [label, number === null ? null : written(number),
+                note || name || ''])]);""",
                           runs)
         self.assertEqual([sentence for sentence, _ in told], [
             "In 9 min 58 s, 42 messages came into orders: 39 were deleted, 2 were dead-lettered to failed and 1 is left at "
             "the end. 95 of 100 took at most 10.2 s.",
             "In 9 min 58 s, 40 messages were sent to 2 queues: 2 were dead-lettered to failed, 1 was lost by expiry and 1 is "
-            "left at the end. 95 of 100 took at most 11.0 s in mail, the slowest.",
+            "left at the end. 95 of 100 took at most 11.0 s in mail, the slowest. mailer was busy 90.1 % of the time: over "
+            "90 %, ages depend on how long the run is.",
             "In 9 min 58 s, no message came in."])
         self.assertEqual([tiles for _, tiles in told], [
             [["dead letters", "2", "in failed"], ["age at 95 %", "10.2 s", ""], ["handled again", "5", ""],
-             ["greatest backlog", "7", "at 1 min 1 s"], ["left at the end", "1", "in orders"]],
+             ["greatest backlog", "7", "at 1 min 1 s"], ["busiest consumer", "87 %", "packer"]],
             [["dead letters", "2", "in failed"], ["age at 95 %", "11.0 s", "in mail"], ["handled again", "5", ""],
-             ["greatest backlog", "7", "in orders at 1 min 1 s"], ["left at the end", "1", "in orders"]],
+             ["greatest backlog", "7", "in orders at 1 min 1 s"], ["busiest consumer", "90.1 %", "mailer"]],
             [["dead letters", "0", ""], ["age at 95 %", None, ""], ["handled again", "0", ""],
-             ["greatest backlog", "0", ""], ["left at the end", "0", ""]]])
+             ["greatest backlog", "0", ""], ["busiest consumer", None, ""]]])
 
     def test_queues_for_dead_letters(self) -> None:
         """Only dead letters come to a queue by the scenario, whether one came or not, if nobody sends or forwards to it."""

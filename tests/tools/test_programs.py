@@ -520,6 +520,7 @@ class ByNode(WrapperCase):
                                     (["compare", "s.toml", "newer.toml"], 1, "refused 14 OutOfRange at version")):
             self.assertEqual(self.run_there(*words), (status, b"", f"{NODE_NOTE}{line}\n"))
         self.assertEqual(self.run_there("run", "--bogus")[0], 2)
+        self.assertEqual(self.run_there("run", "--to", "18446744073709551616", "s.toml")[0], 2)
         self.assertEqual(self.run_there("compare", "s.toml")[0], 2)
 
     @unittest.skipUnless(shutil.which("node"), "node is not here")
@@ -548,7 +549,10 @@ class ByNode(WrapperCase):
         self.write("c.toml", "version")
         for words in (["run", "a.toml"], ["run", "--scripts", "none", "a.toml"], ["check", "a.toml"],
                       ["check", "b.toml"], ["check", "c.toml"], ["compare", "a.toml", "b.toml"], ["compare", "c.toml", "none"],
-                      ["compare", "a.toml", "c.toml"], ["compare", "a.toml", "none"], ["run", "--log=x.log", "b.toml"]):
+                      ["compare", "a.toml", "c.toml"], ["compare", "a.toml", "none"], ["run", "--log=x.log", "b.toml"],
+                      ["run", "--figures", "b.toml"], ["run", "--from", "+900", "--to=20000", "b.toml"],
+                      ["run", "--backlog", "0", "--window-figures", "5000", "b.toml"],
+                      ["run", "--to", "18446744073709551615", "b.toml"]):
             ran = subprocess.run([PROVED, *words], cwd=self.folder, capture_output=True)
             wanted = ran.returncode, ran.stdout, NODE_NOTE + ran.stderr.decode()
             log = pathlib.Path(self.path("x.log")).read_bytes() if words[1].startswith("--log") else b""

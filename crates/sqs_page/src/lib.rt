@@ -1,31 +1,35 @@
 //! Rehearsals for a page in a browser, on one thread: the bytes of a scenario and its script files
-//! in, the bytes of its log, final queues and report out; or two scenarios in, and the comparison
-//! of their reports out.
+//! in, the bytes of its log, final queues, report and figures out; or two scenarios in, and the
+//! comparison of their reports out.
 #![tactic(auto)]
 
 ghost use Rattle.std.specs.Prelude.{◌≡◌, ◌≤◌, ◌<◌, ◌⊎◌, [], length, take};
-ghost use Rattle.sim_scenario.specs.declared.draft.Newest.TheVariants.{Released};
 ghost use Rattle.sqs_formats.specs.Actors.{Files};
+ghost use Rattle.sqs_page.specs.Asking.{asked_by, newest_if, plain};
 ghost use Rattle.sqs_page.specs.Comparisons.{IsComparisonOf, IsEitherFault, IsFirstFault, IsSecondFault};
 ghost use Rattle.sqs_page.specs.Files.{AreFiles, ForFiles};
-ghost use Rattle.sqs_page.specs.Pages.{IsLineOf, IsOutputOf, IsRefusedFor, IsRoomAfter, IsTooShort, newest_if};
+ghost use Rattle.sqs_page.specs.Pages.{IsLineOf, IsOutputOf, IsRefusedFor, IsRoomAfter, IsTooShort};
 ghost use Rattle.sqs_rehearsal.specs.FaultLines.{refusal_line};
 
+mod asked;
 mod comparison;
 mod files;
 mod output;
 mod room;
 
+use crate::asked::{Asked, newest};
 use crate::comparison::{Stop, comparison};
 use crate::files::scripts_in;
 use crate::output::output;
 use crate::room::{put, put_line};
+pub use asked::PageOptions;
 pub use files::FileLengths;
 use sim_scenario::{Newest, Scripts};
 use sqs_rehearsal::Fault;
 use std::alloc::Global;
 
-/// The room has what was asked for: the log, the final queues and the report, or the comparison.
+/// The room has what was asked for: the log, the final queues, the report and the figures that are
+/// wanted, or the comparison.
 pub const DONE: u32 = 0;
 
 /// The scenario, or the first one of two, is refused: the room has the line of its refusal.
@@ -45,17 +49,6 @@ pub const NO_FILES: u32 = 5;
 
 /// The second one of two scenarios is refused: the room has the line of its refusal.
 pub const SECOND_REFUSED: u32 = 6;
-
-// The newest version of scenarios that is read, by whether the preview is asked for.
-fn newest(preview: bool) -> Newest
-    ensures { result ≡ newest_if preview }
-{
-    if preview {
-        Newest::Preview
-    } else {
-        Newest::Released
-    }
-}
 
 // Puts what was asked for into the room.
 fn put_output(output: &[u8], room: &mut [u8], needed: &mut u64) -> u32
@@ -94,7 +87,7 @@ fn put_fault(alloc: Global, refused: u32, fault: &Fault, room: &mut [u8], needed
 // Rehearses a scenario with its script files, and puts the answer into the room.
 fn rehearse(
     alloc: Global,
-    newest: Newest,
+    asked: Asked,
     text: &[u8],
     scripts: &Scripts,
     room: &mut [u8],
@@ -102,18 +95,18 @@ fn rehearse(
 ) -> u32
     ensures code { result ≤ 4 }
     ensures output { result ≡ 0
-        → IsOutputOf newest text.now scripts.now (take needed.new room.new) }
+        → IsOutputOf asked text.now scripts.now (take needed.new room.new) }
     ensures refused { result ≡ 1
-        → IsLineOf (IsRefusedFor newest text.now scripts.now) (take needed.new room.new) }
+        → IsLineOf (IsRefusedFor asked text.now scripts.now) (take needed.new room.new) }
     ensures short { result ≡ 2
-        → IsTooShort room.new needed.new (IsOutputOf newest text.now scripts.now) }
+        → IsTooShort room.new needed.new (IsOutputOf asked text.now scripts.now) }
     ensures memory { result ≡ 3 → needed.new ≡ 0 }
     ensures line { result ≡ 4
-        → IsTooShort room.new needed.new (IsLineOf (IsRefusedFor newest text.now scripts.now)) }
+        → IsTooShort room.new needed.new (IsLineOf (IsRefusedFor asked text.now scripts.now)) }
     ensures room { IsRoomAfter result needed.new room.old room.new }
     ensures length { length room.new ≡ length room.old }
 {
-    match output(alloc, newest, text, scripts) {
+    match output(alloc, asked, text, scripts) {
         Ok(output) => put_output(output.as_slice(), room, needed),
         Err(fault) => put_fault(alloc, REFUSED, &fault, room, needed),
     }
@@ -168,28 +161,32 @@ pub extern "C" fn sqs_page_rehearse(
     needed: &mut u64,
 ) -> u32
     ensures code { result ≤ 4 }
-    ensures output { result ≡ 0 → IsOutputOf Released text.now [] (take needed.new room.new) }
+    ensures output { result ≡ 0 → IsOutputOf plain text.now [] (take needed.new room.new) }
     ensures refused { result ≡ 1
-        → IsLineOf (IsRefusedFor Released text.now []) (take needed.new room.new) }
-    ensures short { result ≡ 2 → IsTooShort room.new needed.new (IsOutputOf Released text.now []) }
+        → IsLineOf (IsRefusedFor plain text.now []) (take needed.new room.new) }
+    ensures short { result ≡ 2 → IsTooShort room.new needed.new (IsOutputOf plain text.now []) }
     ensures memory { result ≡ 3 → needed.new ≡ 0 }
     ensures line { result ≡ 4
-        → IsTooShort room.new needed.new (IsLineOf (IsRefusedFor Released text.now [])) }
+        → IsTooShort room.new needed.new (IsLineOf (IsRefusedFor plain text.now [])) }
     ensures room { IsRoomAfter result needed.new room.old room.new }
     ensures length { length room.new ≡ length room.old }
 {
+    let asked = Asked {
+        newest: Newest::Released,
+        figures: None,
+    };
     let no_scripts = Scripts::new(Vec::new(alloc));
-    rehearse(alloc, Newest::Released, text, &no_scripts, room, needed)
+    rehearse(alloc, asked, text, &no_scripts, room, needed)
 }
 
-/// Rehearses a scenario as `sqs_page_rehearse` does, with its script files, and of the version that
-/// is a preview only if that is asked for. `files` has the name of each file and, behind it, the
-/// file; `lengths` has how long both are. After `NO_FILES` they do not fit together, `needed` is 0,
-/// and the room is as it was.
+/// Rehearses a scenario as `sqs_page_rehearse` does, with its script files, and by options: a
+/// version that is a preview is read only if they ask for it, and figures follow the report if they
+/// ask for them. `files` has the name of each file and, behind it, the file; `lengths` has how long
+/// both are. After `NO_FILES` they do not fit together, `needed` is 0, and the room is as it was.
 #[unsafe(no_mangle)]
 pub extern "C" fn sqs_page_rehearse_with_files(
     alloc: Global,
-    preview: bool,
+    options: &PageOptions,
     text: &[u8],
     files: &[u8],
     lengths: &[FileLengths],
@@ -198,24 +195,24 @@ pub extern "C" fn sqs_page_rehearse_with_files(
 ) -> u32
     ensures code { result ≤ 5 }
     ensures output { result ≡ 0 → ForFiles files.now lengths.now (λ scripts.
-        IsOutputOf (newest_if preview) text.now scripts (take needed.new room.new)) }
+        IsOutputOf (asked_by options.now) text.now scripts (take needed.new room.new)) }
     ensures refused { result ≡ 1 → ForFiles files.now lengths.now (λ scripts.
-        IsLineOf (IsRefusedFor (newest_if preview) text.now scripts) (take needed.new room.new)) }
+        IsLineOf (IsRefusedFor (asked_by options.now) text.now scripts) (take needed.new room.new)) }
     ensures short { result ≡ 2 → ForFiles files.now lengths.now (λ scripts.
-        IsTooShort room.new needed.new (IsOutputOf (newest_if preview) text.now scripts)) }
+        IsTooShort room.new needed.new (IsOutputOf (asked_by options.now) text.now scripts)) }
     ensures memory { result ≡ 3 → needed.new ≡ 0 }
     ensures line { result ≡ 4 → ForFiles files.now lengths.now (λ scripts.
         IsTooShort room.new needed.new
-        (IsLineOf (IsRefusedFor (newest_if preview) text.now scripts))) }
+        (IsLineOf (IsRefusedFor (asked_by options.now) text.now scripts))) }
     ensures no_files { result ≡ 5 → (scripts : Files) → ¬ AreFiles files.now lengths.now scripts }
     ensures nothing { result ≡ 5 → needed.new ≡ 0 }
     ensures room { IsRoomAfter result needed.new room.old room.new }
     ensures length { length room.new ≡ length room.old }
 {
     *needed = 0;
-    let newest = newest(preview);
+    let asked = options.asked();
     match scripts_in(alloc, files, lengths) {
-        Ok(Some(scripts)) => rehearse(alloc, newest, text, &scripts, room, needed),
+        Ok(Some(scripts)) => rehearse(alloc, asked, text, &scripts, room, needed),
         Ok(None) => NO_FILES,
         Err(_) => NO_MEMORY,
     }

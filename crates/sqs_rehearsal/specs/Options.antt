@@ -16,9 +16,9 @@ pub record Options : Type 0 where
   pub workers : ℕ
   pub figures : Option Wanted
 
--- those of a run on one list, without figures
-abbrev pub unsplit : Options
-unsplit = record { window = None; parts = None; map = None; workers = 1; figures = None }
+-- those of a run on one list, with figures if they are wanted
+abbrev pub unsplit : Option Wanted → Options
+unsplit figures = record { window = None; parts = None; map = None; workers = 1; figures = figures }
 
 -- one more than the greatest of some partitions; none for an empty list
 abbrev pub partitions_in : List ℕ → ℕ

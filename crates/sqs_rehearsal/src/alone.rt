@@ -1,7 +1,7 @@
 //! A rehearsal on this thread alone, which starts no thread and waits for none. It is proved to
 //! return.
 ghost use Rattle.std.specs.Prelude.{◌≡◌, false, OnOk};
-ghost use Rattle.sim_scenario.specs.Drafts.{newest_of};
+ghost use Rattle.sim_scenario.specs.Drafts.{OfDraft};
 ghost use Rattle.sqs_rehearsal.specs.Options.{unsplit};
 ghost use Rattle.sqs_rehearsal.specs.Rehearsals.{Rehearses, Request, request_upto};
 ghost use Rattle.sqs_rehearsal.specs.Steps.{Asks, LogsOn};
@@ -14,7 +14,8 @@ use crate::steps::{Begun, Ended, begin, recording};
 use crate::watch::{Unwatched, Watch};
 use sim_clock::Refusal;
 use sim_records::Out;
-use sim_scenario::{Draft, Newest, Scenario, Scripts};
+use sim_report::Wanted;
+use sim_scenario::{Draft, Scenario, Scripts};
 use std::alloc::Global;
 
 // The number of rows that are handed on at once: few enough that they, and the text of their lines,
@@ -73,33 +74,32 @@ pub fn rehearse_here<L: Out, R: Out, P: Watch>(
     ended.end(log, report)
 }
 
-/// Rehearses a scenario as `rehearse_upto` does with one worker, on this thread alone.
+/// Rehearses a scenario as `rehearse_watched` does with one worker, from the draft of its text, on
+/// this thread alone. Behind the report are figures, if they are wanted.
 ///
 /// # Errors
 ///
 /// Those of `rehearse` but `NoWorker`.
 pub fn rehearse_alone<L: Out, R: Out>(
     alloc: Global,
-    newest: Newest,
-    text: &[u8],
+    draft: Draft,
     scripts: &Scripts,
+    figures: Option<Wanted>,
     log: &mut L,
     report: &mut R,
 ) -> Result<(), Fault>
     requires log { (L.state log.old).failed ≡ false }
     requires report { (R.state report.old).failed ≡ false }
-    ensures { Rehearses (request_upto (newest_of newest) text.now scripts.now unsplit) result
-        (seen L.state log.old log.new) (seen R.state report.old report.new) }
+    ensures { OfDraft draft (λ newest text.
+        Rehearses (request_upto newest text scripts.now (unsplit figures)) result
+        (seen L.state log.old log.new) (seen R.state report.old report.new)) }
 {
-    let Ok(draft) = Draft::parse_upto(alloc, newest, text) else {
-        return Err(Fault::Refused(Refusal::Memory));
-    };
     let options = Options {
         window: None,
         parts: None,
         map: None,
         workers: 1,
-        figures: None,
+        figures,
     };
     let scenario = draft.read(alloc, scripts)?;
     rehearse_here(alloc, scenario, &options, log, report, &mut Unwatched)
