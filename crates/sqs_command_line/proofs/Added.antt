@@ -1,7 +1,7 @@
--- What a command is with one more argument.
-use Rattle.std.proofs.Common.{ap₂, false, ◌∙◌, ◌||◌, ◌≡◌}
-use Rattle.clap.specs.Built.{AddsArg}
-use Rattle.clap.specs.Words.{App, Rule, app_of, rule_of, with_rule}
+-- What a command is with one more argument, or with one more subcommand.
+use Rattle.std.proofs.Common.{ap, ap₂, false, ◌∙◌, ◌||◌, ◌≡◌}
+use Rattle.clap.specs.Built.{AddsArg, AddsSubcommand}
+use Rattle.clap.specs.Words.{App, Rule, app_of, rule_of, with_rule, with_subcommand}
 use Rattle.clap.specs.declared.builder.arg.Arg.{Arg}
 use Rattle.clap.specs.declared.builder.command.Command.{Command}
 use Rattle.clap.specs.declared.builder.command.Command.TheViews.{out-Command}
@@ -11,3 +11,6 @@ added_app old a new app rule h is of local = h.shape local ∙ ap₂ with_rule i
 
 pub added_local : (old : Command) (a : Arg) (new : Command) → AddsArg old a new → (out-Command old).has_globals ≡ false → a.global ≡ false → (out-Command new).has_globals ≡ false
 added_local old a new h is local = h.globals ∙ ap₂ ◌||◌ is local
+
+pub added_command : (old sub new : Command) (app of : App) → AddsSubcommand old sub new → app_of old ≡ app → app_of sub ≡ of → (out-Command sub).has_globals ≡ false → app_of new ≡ with_subcommand app of.top
+added_command old sub new app of h is same local = h.shape local ∙ ap₂ with_subcommand is (ap (λ (a : App). a.top) same)

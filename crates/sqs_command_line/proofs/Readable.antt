@@ -91,8 +91,18 @@ head (s ∷ rest) = s
 abbrev run_built : Shape
 run_built = head (built program).subs
 
+abbrev figures_built : Shape
+figures_built = head (drop 3 (built program).subs)
+
 run_owns : Each (IsOwn run_built.rules) run_built.rules
 run_owns = (refl, (refl, (refl, (refl, (refl, (refl, (refl, (refl, (refl, (refl, (refl, (refl, (refl, (refl, (refl, tt)))))))))))))))
+
+figures_owns : Each (IsOwn figures_built.rules) figures_built.rules
+figures_owns = (refl, (refl, (refl, (refl, (refl, (refl, (refl, (refl, (refl, tt)))))))))
+
+-- the numbers that passed a range from a first one on
+passed_range : (least : ℕ) (t : Text) → accepts false (parsers.Unsigned least 18446744073709551615) t ≡ true → IsNumber 64 (Some t)
+passed_range least t h = let a = accepts-Accepts false (parsers.Unsigned least 18446744073709551615) t h in (a.0, a.1)
 
 run_reads : (words : List Text) → level_fault run_built [] nothing_held words false [] ≡ [] → IsReadable (rows_at run_built words)
 run_reads words e =
@@ -102,18 +112,35 @@ run_reads words e =
     inl (
       refl,
       (
-        number_read 64 run_built.rules rows (codes "window") _ passed refl (λ t h. let a = accepts-Accepts false (parsers.Unsigned 1 18446744073709551615) t h in (a.0, a.1)),
+        number_read 64 run_built.rules rows (codes "window") _ passed refl (passed_range 1),
         number_read 32 run_built.rules rows (codes "parts") _ passed refl number,
         number_read 32 run_built.rules rows (codes "workers") _ passed refl number,
-        number_read 64 run_built.rules rows (codes "from") _ passed refl (λ t h. let a = accepts-Accepts false (parsers.Unsigned 0 18446744073709551615) t h in (a.0, a.1)),
-        number_read 64 run_built.rules rows (codes "to") _ passed refl (λ t h. let a = accepts-Accepts false (parsers.Unsigned 0 18446744073709551615) t h in (a.0, a.1)),
-        number_read 64 run_built.rules rows (codes "backlog") _ passed refl (λ t h. let a = accepts-Accepts false (parsers.Unsigned 0 18446744073709551615) t h in (a.0, a.1)),
-        number_read 64 run_built.rules rows (codes "window-figures") _ passed refl (λ t h. let a = accepts-Accepts false (parsers.Unsigned 1 18446744073709551615) t h in (a.0, a.1)),
+        (
+          number_read 64 run_built.rules rows (codes "from") _ passed refl (passed_range 0),
+          number_read 64 run_built.rules rows (codes "to") _ passed refl (passed_range 0),
+          number_read 64 run_built.rules rows (codes "backlog") _ passed refl (passed_range 0),
+          number_read 64 run_built.rules rows (codes "window-figures") _ passed refl (passed_range 1),
+        ),
       ),
     )
 
+figures_reads : (words : List Text) → level_fault figures_built [] nothing_held words false [] ≡ [] → IsReadable (rows_at figures_built words)
+figures_reads words e =
+    let passed = level_passed figures_built figures_owns words e in
+    let rows = rows_after figures_built.rules [] words in
+    inr (inl (
+      refl,
+      (
+        number_read 64 figures_built.rules rows (codes "from") _ passed refl (passed_range 0),
+        number_read 64 figures_built.rules rows (codes "to") _ passed refl (passed_range 0),
+        number_read 64 figures_built.rules rows (codes "backlog") _ passed refl (passed_range 0),
+        number_read 64 figures_built.rules rows (codes "window-figures") _ passed refl (passed_range 1),
+      ),
+    ))
+
 program_reads : Each Reads (built program).subs
-program_reads = (inl run_reads, (inl (λ words e. inr (inl refl)), (inl (λ words e. inr (inr refl)), (inr (refl, refl), tt))))
+program_reads =
+    (inl run_reads, (inl (λ words e. inr (inr (inl refl))), (inl (λ words e. inr (inr (inr refl))), (inl figures_reads, (inr (refl, refl), tt)))))
 
 entered_reads : (stop : Option (Text × List Text)) → IsNoHelp stop → entered_fault (built program) stop ≡ [] → is_some (entered (built program) stop) ≡ true
     → IsReadableOf (entered (built program) stop)

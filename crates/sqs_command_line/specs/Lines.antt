@@ -5,11 +5,13 @@ use Rattle.std.specs.Str.Parse.{IsNumeral, digits_value, without_leading_plus}
 use Rattle.clap.specs.Words.{HasKind, Row, Text, fault_of, first_of, one_of}
 use Rattle.sqs_command_line.specs.declared.asked.CheckLine.{CheckLine}
 use Rattle.sqs_command_line.specs.declared.asked.CompareLine.{CompareLine}
+use Rattle.sqs_command_line.specs.declared.asked.FiguresLine.{FiguresLine}
 use Rattle.sqs_command_line.specs.declared.asked.Line.{Line}
 use Rattle.sqs_command_line.specs.declared.asked.Line.TheVariants as lines
 use Rattle.sqs_command_line.specs.declared.asked.LineFault.{LineFault}
 use Rattle.sqs_command_line.specs.declared.asked.LineFault.TheVariants as faults
 use Rattle.sqs_command_line.specs.declared.asked.RunLine.{RunLine}
+use Rattle.sqs_command_line.specs.declared.asked.WantedLine.{WantedLine}
 use Rattle.sqs_command_line.specs.Programs.{program}
 
 -- the text of a borrowed word
@@ -36,6 +38,13 @@ pub record IsFlag (text : Option Text) (flag : Bool) : Type 0 where
   pub given : text ≡ Some (codes "true") → flag ≡ true
   pub left_out : text ≡ Some (codes "false") → flag ≡ false
 
+-- what is wanted of figures by the arguments
+pub record IsWanted (rows : List Row) (l : WantedLine) : Type 0 where
+  pub from : l.from ≡ number_of (one_of (codes "from") rows)
+  pub to : l.to ≡ number_of (one_of (codes "to") rows)
+  pub backlog : l.backlog ≡ number_of (one_of (codes "backlog") rows)
+  pub window_figures : l.window_figures ≡ number_of (one_of (codes "window-figures") rows)
+
 -- a rehearsal by its arguments
 pub record IsRun (rows : List Row) (l : RunLine) : Type 0 where
   pub window : l.window ≡ number_of (one_of (codes "window") rows)
@@ -45,10 +54,7 @@ pub record IsRun (rows : List Row) (l : RunLine) : Type 0 where
   pub log : told l.log ≡ first_of (codes "log") rows
   pub scripts : told l.scripts ≡ first_of (codes "scripts") rows
   pub figures : IsFlag (one_of (codes "figures") rows) l.figures
-  pub from : l.from ≡ number_of (one_of (codes "from") rows)
-  pub to : l.to ≡ number_of (one_of (codes "to") rows)
-  pub backlog : l.backlog ≡ number_of (one_of (codes "backlog") rows)
-  pub window_figures : l.window_figures ≡ number_of (one_of (codes "window-figures") rows)
+  pub wanted : IsWanted rows l.wanted
   pub preview : IsFlag (one_of (codes "preview") rows) l.preview
   pub quiet : IsFlag (one_of (codes "quiet") rows) l.quiet
   pub scenario : told l.scenario ≡ first_of (codes "scenario") rows
@@ -66,18 +72,32 @@ pub record IsCompare (rows : List Row) (l : CompareLine) : Type 0 where
   pub first : told l.first ≡ first_of (codes "first") rows
   pub second : told l.second ≡ first_of (codes "second") rows
 
+-- figures of a log by their arguments
+pub record IsFigures (rows : List Row) (l : FiguresLine) : Type 0 where
+  pub scripts : told l.scripts ≡ first_of (codes "scripts") rows
+  pub wanted : IsWanted rows l.wanted
+  pub preview : IsFlag (one_of (codes "preview") rows) l.preview
+  pub scenario : told l.scenario ≡ first_of (codes "scenario") rows
+  pub log : told l.log ≡ first_of (codes "log") rows
+
+-- the numbers of what is wanted of figures can be read
+abbrev pub HasWanted : List Row → Type 0
+HasWanted rows =
+    IsNumber 64 (one_of (codes "from") rows) × IsNumber 64 (one_of (codes "to") rows)
+    × IsNumber 64 (one_of (codes "backlog") rows) × IsNumber 64 (one_of (codes "window-figures") rows)
+
 -- the numbers of a rehearsal can be read
 abbrev pub HasNumbers : List Row → Type 0
 HasNumbers rows =
     IsNumber 64 (one_of (codes "window") rows) × IsNumber 32 (one_of (codes "parts") rows) × IsNumber 32 (one_of (codes "workers") rows)
-    × IsNumber 64 (one_of (codes "from") rows) × IsNumber 64 (one_of (codes "to") rows)
-    × IsNumber 64 (one_of (codes "backlog") rows) × IsNumber 64 (one_of (codes "window-figures") rows)
+    × HasWanted rows
 
 -- a line by the subcommand's name and its arguments
 abbrev pub IsLine : Text → List Row → Line → Type 0
 IsLine name rows (lines.Run l) = (name ≡ codes "run") × IsRun rows l
 IsLine name rows (lines.Check l) = (name ≡ codes "check") × IsCheck rows l
 IsLine name rows (lines.Compare l) = (name ≡ codes "compare") × IsCompare rows l
+IsLine name rows (lines.Figures l) = (name ≡ codes "figures") × IsFigures rows l
 
 -- a line by what was found of the subcommand, which must be there
 abbrev pub IsLineOf : Option (Text × List Row) → Line → Type 0
@@ -86,7 +106,9 @@ IsLineOf (Some p) l = IsLine p.0 p.1 l
 
 -- a subcommand of the program whose numbers can be read
 abbrev pub IsReadable : Text × List Row → Type 0
-IsReadable p = ((p.0 ≡ codes "run") × HasNumbers p.1) ⊎ ((p.0 ≡ codes "check") ⊎ (p.0 ≡ codes "compare"))
+IsReadable p =
+    ((p.0 ≡ codes "run") × HasNumbers p.1)
+    ⊎ (((p.0 ≡ codes "figures") × HasWanted p.1) ⊎ ((p.0 ≡ codes "check") ⊎ (p.0 ≡ codes "compare")))
 
 abbrev pub IsReadableOf : Option (Text × List Row) → Type 0
 IsReadableOf None = ⊥

@@ -37,21 +37,21 @@ run_options =
 abbrev pub run_files : App
 run_files = with_rule (with_rule run_options (option_rule (codes "log"))) (option_rule (codes "scripts"))
 
--- .. [--figures] [--from MS] [--to MS]
-abbrev pub run_figures : App
-run_figures = with_rule (with_rule (with_rule run_files (flag_rule (codes "figures"))) (moment_rule (codes "from"))) (moment_rule (codes "to"))
-
--- .. [--backlog N] [--window-figures MS]
-abbrev pub run_wanted : App
-run_wanted = with_rule (with_rule run_figures (moment_rule (codes "backlog"))) (time_rule (codes "window-figures"))
+-- .. [--from MS] [--to MS] [--backlog N] [--window-figures MS]
+abbrev pub with_wanted : App → App
+with_wanted app =
+    with_rule (with_rule (with_rule (with_rule app (moment_rule (codes "from"))) (moment_rule (codes "to"))) (moment_rule (codes "backlog")))
+    (time_rule (codes "window-figures"))
 
 -- .. [--preview]
 abbrev pub with_preview : App → App
 with_preview app = with_rule app (flag_rule (codes "preview"))
 
--- .. [--preview] [--quiet] [SCENARIO]
+-- .. [--figures] and what is wanted of them [--preview] [--quiet] [SCENARIO]
 abbrev pub run_app : App
-run_app = with_rule (with_rule (with_preview run_wanted) (flag_rule (codes "quiet"))) (place_rule false (codes "scenario"))
+run_app =
+    with_rule (with_rule (with_preview (with_wanted (with_rule run_files (flag_rule (codes "figures"))))) (flag_rule (codes "quiet")))
+    (place_rule false (codes "scenario"))
 
 -- check [--scripts DIR] [--preview] [SCENARIO]
 abbrev pub check_app : App
@@ -63,10 +63,18 @@ compare_app =
     with_rule (with_rule (with_preview (with_rule (new_app (codes "compare")) (option_rule (codes "scripts")))) (place_rule true (codes "first")))
     (place_rule true (codes "second"))
 
+-- figures [--scripts DIR] and what is wanted of them [--preview] SCENARIO [LOG]
+abbrev pub figures_app : App
+figures_app =
+    with_rule (with_rule (with_preview (with_wanted (with_rule (new_app (codes "figures")) (option_rule (codes "scripts"))))) (place_rule true (codes "scenario")))
+    (place_rule false (codes "log"))
+
 -- sqs_rehearse, which asks for a subcommand
 abbrev pub bare : App
 bare = let a = new_app (codes "sqs_rehearse") in record a { top = record a.top { subcommand_required = true } }
 
 -- the whole
 abbrev pub program : App
-program = with_subcommand (with_subcommand (with_subcommand bare run_app.top) check_app.top) compare_app.top
+program =
+    with_subcommand (with_subcommand (with_subcommand (with_subcommand bare run_app.top) check_app.top) compare_app.top)
+    figures_app.top

@@ -1,6 +1,19 @@
 //! What a command line asks for.
 use clap::Error;
 
+/// What is wanted of figures.
+#[derive(Clone, Copy)]
+pub struct WantedLine {
+    /// The first moment of which they are wanted, in milliseconds.
+    pub from: Option<u64>,
+    /// The last one, in milliseconds.
+    pub to: Option<u64>,
+    /// How many messages that wait are no backlog yet.
+    pub backlog: Option<u64>,
+    /// How long the windows of the figures are, in milliseconds.
+    pub window_figures: Option<u64>,
+}
+
 /// A rehearsal.
 #[derive(Clone, Copy)]
 pub struct RunLine<'a> {
@@ -17,14 +30,8 @@ pub struct RunLine<'a> {
     pub scripts: Option<&'a str>,
     /// Whether figures are written behind the report.
     pub figures: bool,
-    /// The first moment of which figures are wanted, in milliseconds.
-    pub from: Option<u64>,
-    /// The last one, in milliseconds.
-    pub to: Option<u64>,
-    /// How many messages that wait are no backlog yet.
-    pub backlog: Option<u64>,
-    /// How long the windows of the figures are, in milliseconds.
-    pub window_figures: Option<u64>,
+    /// What is wanted of them.
+    pub wanted: WantedLine,
     /// Whether version 3 of scenarios is read, too.
     pub preview: bool,
     /// Whether no progress is shown.
@@ -56,12 +63,28 @@ pub struct CompareLine<'a> {
     pub second: Option<&'a str>,
 }
 
+/// Figures of a log.
+#[derive(Clone, Copy)]
+pub struct FiguresLine<'a> {
+    /// The folder of the scripts.
+    pub scripts: Option<&'a str>,
+    /// What is wanted of the figures.
+    pub wanted: WantedLine,
+    /// Whether version 3 of scenarios is read, too.
+    pub preview: bool,
+    /// The file of the scenario.
+    pub scenario: Option<&'a str>,
+    /// The file of the log.
+    pub log: Option<&'a str>,
+}
+
 /// What a command line asks for.
 #[derive(Clone, Copy)]
 pub enum Line<'a> {
     Run(RunLine<'a>),
     Check(CheckLine<'a>),
     Compare(CompareLine<'a>),
+    Figures(FiguresLine<'a>),
 }
 
 /// Why words are no command line.

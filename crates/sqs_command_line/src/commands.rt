@@ -2,7 +2,7 @@
 ghost use Rattle.std.specs.Prelude.{◌≡◌, IfOk, false};
 ghost use Rattle.clap.specs.Words.{app_of, new_app, rule_of};
 ghost use Rattle.clap.specs.declared.builder.command.Command.TheViews.{out-Command as fields_of};
-ghost use Rattle.sqs_command_line.specs.Programs.{check_app, compare_app, flag_rule, moment_rule, number_rule, option_rule, place_rule, program, run_app, run_figures, run_files, run_options, run_wanted, time_rule};
+ghost use Rattle.sqs_command_line.specs.Programs.{bare, check_app, compare_app, figures_app, flag_rule, moment_rule, number_rule, option_rule, place_rule, program, run_app, run_files, run_options, time_rule, with_wanted};
 
 use clap::{Arg, ArgAction, Command};
 use std::alloc::{AllocError, Global};
@@ -63,6 +63,22 @@ Status:
 
 Example:
   sqs_rehearse compare today.toml tomorrow.toml";
+
+/// The text below the help of `figures`.
+const FIGURES_HELP: &str =
+    "Reads a scenario (TOML), the scripts that it names, and a log of its run (CSV), to its end or to the
+final queues behind it. Writes the figures of the log's rows (CSV) to standard output, as run --figures
+writes them. A fault is one line on standard error; of a log it says in which line it is.
+
+Status:
+  0  done
+  1  the scenario is refused, the log is none of it, or a file can't be read
+  2  the command line is not understood
+  3  out of memory
+  4  a write failed
+
+Example:
+  sqs_rehearse figures --from 60000 scenario.toml log.csv";
 
 // An option with a value.
 fn option<'a>(alloc: Global, name: &'a str, help: &'a str) -> Arg<'a>
@@ -170,13 +186,12 @@ fn run_files<'a>(alloc: Global) -> Result<Command<'a>, AllocError>
     Ok(command)
 }
 
-// The command `run`, also with the stretch of its figures.
-fn run_figures<'a>(alloc: Global) -> Result<Command<'a>, AllocError>
-    ensures app { IfOk result (λ c. app_of c ≡ run_figures) }
+// A command, also with the options of what is wanted of figures.
+fn with_wanted<'a>(alloc: Global, command: Command<'a>) -> Result<Command<'a>, AllocError>
+    requires { (fields_of command).has_globals ≡ false }
+    ensures app { IfOk result (λ c. app_of c ≡ with_wanted (app_of command.entry)) }
     ensures local { IfOk result (λ c. (fields_of c).has_globals ≡ false) }
 {
-    let command = run_files(alloc)?;
-    let command = command.arg(flag(alloc, "figures", "Write figures behind the report"))?;
     let command = command.arg(moment(
         alloc,
         "from",
@@ -187,15 +202,6 @@ fn run_figures<'a>(alloc: Global) -> Result<Command<'a>, AllocError>
         "to",
         "The last millisecond of the figures [default: the horizon]",
     ))?;
-    Ok(command)
-}
-
-// The command `run`, also with what else is wanted of its figures.
-fn run_wanted<'a>(alloc: Global) -> Result<Command<'a>, AllocError>
-    ensures app { IfOk result (λ c. app_of c ≡ run_wanted) }
-    ensures local { IfOk result (λ c. (fields_of c).has_globals ≡ false) }
-{
-    let command = run_figures(alloc)?;
     let command = command.arg(moment(
         alloc,
         "backlog",
@@ -214,7 +220,9 @@ fn run_command<'a>(alloc: Global) -> Result<Command<'a>, AllocError>
     ensures app { IfOk result (λ c. app_of c ≡ run_app) }
     ensures local { IfOk result (λ c. (fields_of c).has_globals ≡ false) }
 {
-    let command = run_wanted(alloc)?;
+    let command = run_files(alloc)?;
+    let command = command.arg(flag(alloc, "figures", "Write figures behind the report"))?;
+    let command = with_wanted(alloc, command)?;
     let command = command.arg(flag(alloc, "preview", PREVIEW_HELP))?;
     let command = command.arg(flag(alloc, "quiet", "Show no progress, even on a terminal"))?;
     let command = command.arg(place(alloc, "scenario", false, SCENARIO_HELP))?;
@@ -256,6 +264,30 @@ fn compare_command<'a>(alloc: Global) -> Result<Command<'a>, AllocError>
     Ok(command)
 }
 
+// The command `figures`.
+fn figures_command<'a>(alloc: Global) -> Result<Command<'a>, AllocError>
+    ensures app { IfOk result (λ c. app_of c ≡ figures_app) }
+    ensures local { IfOk result (λ c. (fields_of c).has_globals ≡ false) }
+{
+    let command = named(
+        alloc,
+        "figures",
+        "Writes the figures of a log",
+        FIGURES_HELP,
+    );
+    let command = command.arg(option(alloc, "scripts", SCRIPTS_HELP))?;
+    let command = with_wanted(alloc, command)?;
+    let command = command.arg(flag(alloc, "preview", PREVIEW_HELP))?;
+    let command = command.arg(place(alloc, "scenario", true, "The scenario's file"))?;
+    let command = command.arg(place(
+        alloc,
+        "log",
+        false,
+        "The log's file [default: standard input]",
+    ))?;
+    Ok(command)
+}
+
 // The whole program.
 pub fn command<'a>(alloc: Global) -> Result<Command<'a>, AllocError>
     ensures app { IfOk result (λ c. app_of c ≡ program) }
@@ -265,5 +297,6 @@ pub fn command<'a>(alloc: Global) -> Result<Command<'a>, AllocError>
     let command = command.subcommand(run_command(alloc)?)?;
     let command = command.subcommand(check_command(alloc)?)?;
     let command = command.subcommand(compare_command(alloc)?)?;
+    let command = command.subcommand(figures_command(alloc)?)?;
     Ok(command)
 }

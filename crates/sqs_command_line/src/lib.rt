@@ -5,5 +5,5 @@ mod asked;
 mod commands;
 mod reading;
 
-pub use asked::{CheckLine, CompareLine, Line, LineFault, RunLine};
+pub use asked::{CheckLine, CompareLine, FiguresLine, Line, LineFault, RunLine, WantedLine};
 pub use reading::line;

@@ -1,10 +1,10 @@
 //! Reads the command line from its words.
 ghost use Rattle.std.specs.Prelude.{◌≡◌, [], IfErr, IfOk, MatchResult, map};
 ghost use Rattle.clap.specs.Words.{fault_of, found_of, one_of, rows_of, subcommand_of, subcommand_rows_of};
-ghost use Rattle.sqs_command_line.specs.Lines.{HasNumbers, IsCheck, IsCompare, IsFaultOf, IsLine, IsLineOf, IsReadable, IsReadableOf, IsRun, TellsNumber};
+ghost use Rattle.sqs_command_line.specs.Lines.{HasNumbers, HasWanted, IsCheck, IsCompare, IsFaultOf, IsFigures, IsLine, IsLineOf, IsReadable, IsReadableOf, IsRun, IsWanted, TellsNumber};
 ghost use Rattle.sqs_command_line.specs.Programs.{program};
 
-use crate::asked::{CheckLine, CompareLine, Line, LineFault, RunLine};
+use crate::asked::{CheckLine, CompareLine, FiguresLine, Line, LineFault, RunLine, WantedLine};
 use crate::commands::command;
 use clap::ArgMatches;
 use std::alloc::Global;
@@ -33,6 +33,19 @@ fn number(matches: &ArgMatches, id: &str) -> Result<Option<u32>, Unread>
     }
 }
 
+// What is wanted of figures.
+fn wanted_line(matches: &ArgMatches) -> Result<WantedLine, Unread>
+    ensures { MatchResult result (IsWanted (rows_of (found_of matches.now)))
+        (λ u. ¬ HasWanted (rows_of (found_of matches.now))) }
+{
+    Ok(WantedLine {
+        from: time(matches, "from")?,
+        to: time(matches, "to")?,
+        backlog: time(matches, "backlog")?,
+        window_figures: time(matches, "window-figures")?,
+    })
+}
+
 // What `run` asks for.
 fn run_line<'a>(matches: &ArgMatches<'a>) -> Result<RunLine<'a>, Unread>
     ensures { MatchResult result (IsRun (rows_of (found_of matches.now)))
@@ -41,10 +54,7 @@ fn run_line<'a>(matches: &ArgMatches<'a>) -> Result<RunLine<'a>, Unread>
     let window = time(matches, "window")?;
     let parts = number(matches, "parts")?;
     let workers = number(matches, "workers")?;
-    let from = time(matches, "from")?;
-    let to = time(matches, "to")?;
-    let backlog = time(matches, "backlog")?;
-    let window_figures = time(matches, "window-figures")?;
+    let wanted = wanted_line(matches)?;
     Ok(RunLine {
         window,
         parts,
@@ -53,10 +63,7 @@ fn run_line<'a>(matches: &ArgMatches<'a>) -> Result<RunLine<'a>, Unread>
         log: matches.get_str("log"),
         scripts: matches.get_str("scripts"),
         figures: matches.get_flag("figures"),
-        from,
-        to,
-        backlog,
-        window_figures,
+        wanted,
         preview: matches.get_flag("preview"),
         quiet: matches.get_flag("quiet"),
         scenario: matches.get_str("scenario"),
@@ -86,6 +93,21 @@ fn compare_line<'a>(matches: &ArgMatches<'a>) -> CompareLine<'a>
     }
 }
 
+// What `figures` asks for.
+fn figures_line<'a>(matches: &ArgMatches<'a>) -> Result<FiguresLine<'a>, Unread>
+    ensures { MatchResult result (IsFigures (rows_of (found_of matches.now)))
+        (λ u. ¬ HasWanted (rows_of (found_of matches.now))) }
+{
+    let wanted = wanted_line(matches)?;
+    Ok(FiguresLine {
+        scripts: matches.get_str("scripts"),
+        wanted,
+        preview: matches.get_flag("preview"),
+        scenario: matches.get_str("scenario"),
+        log: matches.get_str("log"),
+    })
+}
+
 // The line of a subcommand's name and matches.
 fn line_of_subcommand<'a>(name: &str, matches: &ArgMatches<'a>) -> Result<Line<'a>, Unread>
     ensures { MatchResult result (IsLine name.now (rows_of (found_of matches.now)))
@@ -99,6 +121,9 @@ fn line_of_subcommand<'a>(name: &str, matches: &ArgMatches<'a>) -> Result<Line<'
     }
     if name == "compare" {
         return Ok(Line::Compare(compare_line(matches)));
+    }
+    if name == "figures" {
+        return Ok(Line::Figures(figures_line(matches)?));
     }
     Err(Unread)
 }

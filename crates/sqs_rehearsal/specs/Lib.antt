@@ -9,6 +9,7 @@ pub mod Steps
 pub mod FaultLines
 pub mod Left
 pub mod Limited
+pub mod Logged
 pub mod LimitLaws
 pub mod Sinks
 pub mod SinkLaws

@@ -62,9 +62,9 @@ fn queues_asked(
     Ok(queues)
 }
 
-// The figures of no rows of a scenario over the part of a stretch that lies in its run. It fails if
-// memory runs out.
-fn fresh_figures(alloc: Global, scenario: &Scenario, wanted: Wanted) -> Result<Figures, AllocError>
+/// The figures of no rows of a scenario over the part of a stretch that lies in its run. It fails if
+/// memory runs out.
+pub fn fresh_figures(alloc: Global, scenario: &Scenario, wanted: Wanted) -> Result<Figures, AllocError>
     ensures { IfOk result (λ figures. figures ≡ no_figures scenario.now wanted) }
 {
     let queues = scenario.queues().len();

@@ -6,6 +6,7 @@ use Rattle.std.specs.Str.Parse.{digits_value, without_leading_plus}
 use Rattle.sim_report.specs.declared.asked.Wanted.{Wanted}
 use Rattle.sim_report.specs.declared.stretch.Stretch.{Stretch}
 use Rattle.sqs_command_line.specs.declared.asked.RunLine.{RunLine}
+use Rattle.sqs_command_line.specs.declared.asked.WantedLine.{WantedLine}
 use Rattle.sqs_rehearsal.specs.Options.{Options}
 
 -- one decimal digit or more, and nothing else
@@ -28,21 +29,27 @@ abbrev pub map_of : List ℕ → List ℕ
 map_of list = unwrap_or (numbers_of (slice_split (λ b. b == 44) list)) []
 
 -- the stretch of figures: from the first to the last millisecond that a command line gives
-abbrev pub stretch_of : RunLine → Stretch
+abbrev pub stretch_of : WantedLine → Stretch
 stretch_of line =
     record { from = unwrap_or line.from 0; until = min (unwrap_or line.to (2 ^ 64 - 1) + 1) (2 ^ 64 - 1) }
 
--- what a command line wants of figures, for which it asks by a word or by one of their options; more than ten messages
--- that wait are a backlog, and a window has five minutes, unless it says otherwise
-abbrev pub wanted_of : RunLine → Option Wanted
-wanted_of line =
-    cond (line.figures || is_some line.from || is_some line.to || is_some line.backlog || is_some line.window_figures)
-    (Some (record {
+-- what a command line wants of figures; more than ten messages that wait are a backlog, and a window has five minutes,
+-- unless it says otherwise
+abbrev pub wanted_by : WantedLine → Wanted
+wanted_by line =
+    record {
       stretch = stretch_of line;
       backlog = unwrap_or line.backlog 10;
       window = unwrap_or line.window_figures 300000;
-    }))
-    None
+    }
+
+-- whether it has an option of figures
+abbrev pub has_option : WantedLine → Bool
+has_option line = is_some line.from || is_some line.to || is_some line.backlog || is_some line.window_figures
+
+-- what a rehearsal wants of figures, for which it asks by a word or by one of their options
+abbrev pub wanted_of : RunLine → Option Wanted
+wanted_of line = cond (line.figures || has_option line.wanted) (Some (wanted_by line.wanted)) None
 
 -- the split of a command line: its numbers as they were read; one worker if it has no number of workers
 abbrev pub split_of : RunLine → Options

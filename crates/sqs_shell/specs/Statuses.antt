@@ -1,11 +1,14 @@
 -- The status that the program ends with.
-use Rattle.std.specs.Prelude.{ℕ}
+use Rattle.std.specs.Prelude.{List, ℕ}
 use Rattle.std.specs.declared.io.ErrorKind.{ErrorKind as IoErrorKind}
 use Rattle.std.specs.declared.io.ErrorKind.TheVariants as io_kinds
 use Rattle.clap.specs.declared.error.kind.ErrorKind.{ErrorKind}
 use Rattle.clap.specs.declared.error.kind.ErrorKind.TheVariants as kinds
+use Rattle.std.specs.Borrow.{Bor}
 use Rattle.sim_clock.specs.declared.refusal.Refusal.{Refusal}
 use Rattle.sim_clock.specs.declared.refusal.Refusal.TheVariants as refusals
+use Rattle.sim_logs.specs.declared.fault.LogFault.{LogFault}
+use Rattle.sim_logs.specs.declared.fault.LogFault.TheVariants as log_faults
 use Rattle.sqs_rehearsal.specs.declared.rehearsal.Fault.{Fault}
 use Rattle.sqs_rehearsal.specs.declared.rehearsal.Fault.TheVariants as faults
 use Rattle.sqs_shell.specs.declared.faults.Stop.{Stop}
@@ -27,9 +30,16 @@ abbrev pub fault_status : Fault → ℕ
 fault_status (faults.Scenario fault) = 1
 fault_status (faults.Refused refusal) = status_of refusal
 
--- by what stops the program: 1 of an input that can't be read, 2 of the words of its command line
+-- what stops the program if a log with this path is refused: out of memory, an input that can't be read, or no log
+abbrev pub log_stop : LogFault → Bor (List ℕ) → Stop
+log_stop log_faults.Memory path = stops.Refused (faults.Refused refusals.Memory)
+log_stop log_faults.Unreadable path = stops.CannotRead path
+log_stop fault path = stops.NoLog path fault
+
+-- by what stops the program: 1 of an input that can't be read or is no log, 2 of the words of its command line
 abbrev pub stop_status : Stop → ℕ
 stop_status (stops.CannotRead path) = 1
+stop_status (stops.NoLog path fault) = 1
 stop_status stops.NotUtf8 = 2
 stop_status (stops.Refused fault) = fault_status fault
 

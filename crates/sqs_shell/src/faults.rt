@@ -5,6 +5,7 @@ ghost use Rattle.std.specs.Process.{exit_status};
 ghost use Rattle.sqs_shell.specs.Statuses.{fault_status, status_of, stop_status, write_refusal};
 
 use sim_clock::Refusal;
+use sim_logs::LogFault;
 use sim_scenario::ReadError;
 use sqs_rehearsal::{Fault, scenario_line};
 use std::alloc::{AllocError, AllocFailed, Global};
@@ -16,6 +17,8 @@ use std::process::ExitCode;
 pub enum Stop<'a> {
     /// The input with this path can't be read; `-` is standard input.
     CannotRead(&'a str),
+    /// The input with this path is no log of the scenario.
+    NoLog(&'a str, LogFault),
     /// A word of the command line is not UTF-8.
     NotUtf8,
     /// The scenario or the rehearsal is refused.
@@ -128,6 +131,18 @@ fn tell_fault(rt: &HostRuntime, fault: Fault) -> ExitCode
     }
 }
 
+// Prints in a line where and why the input with this path is no log.
+fn tell_log_fault(rt: &HostRuntime, path: &str, fault: LogFault) {
+    let _ = match fault {
+        LogFault::NoHeader => eprintln!(rt; "{path}:1: not the header of a log"),
+        LogFault::NoRow { line } => eprintln!(rt; "{path}:{line}: no row of this scenario's log"),
+        LogFault::Earlier { line } => {
+            eprintln!(rt; "{path}:{line}: a row of an earlier time than the row above it")
+        }
+        LogFault::Unreadable | LogFault::Memory => Ok(()),
+    };
+}
+
 /// Prints what stopped the program in a line on standard error. Returns the status with which it
 /// ends.
 pub fn tell(rt: &HostRuntime, stop: Stop<'_>) -> ExitCode
@@ -136,6 +151,10 @@ pub fn tell(rt: &HostRuntime, stop: Stop<'_>) -> ExitCode
     match stop {
         Stop::CannotRead(path) => {
             let _ = eprintln!(rt; "cannot read {path}");
+            ExitCode::from(1)
+        }
+        Stop::NoLog(path, fault) => {
+            tell_log_fault(rt, path, fault);
             ExitCode::from(1)
         }
         Stop::NotUtf8 => {

@@ -5,6 +5,7 @@
 mod check;
 mod compare;
 mod faults;
+mod figures;
 mod files;
 mod progress;
 mod run;

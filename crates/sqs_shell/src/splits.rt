@@ -1,10 +1,10 @@
 //! The split of a rehearsal, from its command line.
 ghost use Rattle.std.specs.Prelude.{◌==◌, ◌≡◌, [], IfOk, map, unwrap_or};
 ghost use Rattle.std.specs.List.{slice_split};
-ghost use Rattle.sqs_shell.specs.Splits.{map_of, number_of, numbers_of, split_of, wanted_of};
+ghost use Rattle.sqs_shell.specs.Splits.{has_option, map_of, number_of, numbers_of, split_of, wanted_by, wanted_of};
 
 use sim_report::{Stretch, Wanted};
-use sqs_command_line::RunLine;
+use sqs_command_line::{RunLine, WantedLine};
 use sqs_rehearsal::Options;
 use std::alloc::{AllocError, Global};
 
@@ -51,25 +51,38 @@ const BACKLOG: u64 = 10;
 // So long is a window of figures unless a line says otherwise, in milliseconds.
 const WINDOW: u64 = 300_000;
 
-// What a line wants of figures: from `from`, else from the beginning, to `to`, else to the end.
-// Each option of figures asks for them, too.
-fn wanted(asked: RunLine<'_>) -> Option<Wanted>
-    ensures { result ≡ wanted_of asked.entry }
+/// What a line wants of figures: from `from`, else from the beginning, to `to`, else to the end.
+pub fn wanted_by(asked: WantedLine) -> Wanted
+    ensures { result ≡ wanted_by asked }
 {
-    let no_stretch = asked.from.is_none() && asked.to.is_none();
-    let no_more = asked.backlog.is_none() && asked.window_figures.is_none();
-    if !asked.figures && no_stretch && no_more {
-        return None;
-    }
     let stretch = Stretch {
         from: asked.from.unwrap_or(0),
         until: asked.to.unwrap_or(u64::MAX).saturating_add(1),
     };
-    Some(Wanted {
+    Wanted {
         stretch,
         backlog: asked.backlog.unwrap_or(BACKLOG),
         window: asked.window_figures.unwrap_or(WINDOW),
-    })
+    }
+}
+
+// Whether a line has an option of figures.
+fn has_option(asked: WantedLine) -> bool
+    ensures { result ≡ has_option asked }
+{
+    let has_stretch = asked.from.is_some() || asked.to.is_some();
+    has_stretch || asked.backlog.is_some() || asked.window_figures.is_some()
+}
+
+// What a rehearsal wants of figures, if it wants them; each option of them asks for them, too.
+fn wanted(asked: RunLine<'_>) -> Option<Wanted>
+    ensures { result ≡ wanted_of asked.entry }
+{
+    if asked.figures || has_option(asked.wanted) {
+        Some(wanted_by(asked.wanted))
+    } else {
+        None
+    }
 }
 
 /// The split, and the figures, that a line asks for.

@@ -7,7 +7,7 @@ ghost use Rattle.sqs_shell.specs.Inputs.{words_stop};
 ghost use Rattle.sqs_shell.specs.Statuses.{usage_status};
 
 use crate::faults::{self, Stop};
-use crate::{check, compare, run};
+use crate::{check, compare, figures, run};
 use clap::Error;
 use clap::error::ErrorKind;
 use sim_clock::Refusal;
@@ -73,6 +73,7 @@ fn obey<W: Threads + Wait + Sync>(rt: &HostRuntime, threads: &W, asked: Line<'_>
         Line::Check(asked) => check::check(rt, asked),
         Line::Run(asked) => run::run(rt, threads, asked),
         Line::Compare(asked) => compare::compare(rt, asked),
+        Line::Figures(asked) => figures::figures(rt, asked),
     }
 }
 

@@ -27,6 +27,12 @@ fn asked<'a>(alloc: Global, words: &'a [&'a str]) -> Asked<'a> {
             let words = [compare.first, compare.second, compare.scripts, None];
             Ok(("compare", NONE, (compare.preview, false), words))
         }
+        Ok(Line::Figures(figures)) => {
+            let words = [None, figures.log, figures.scripts, figures.scenario];
+            let wanted = figures.wanted;
+            let numbers = (wanted.from.or(wanted.to), None, None);
+            Ok(("figures", numbers, (figures.preview, false), words))
+        }
         Err(LineFault::Words(error)) => Err(error.exit_code()),
     }
 }
@@ -41,8 +47,13 @@ const ALL: [Option<&str>; 4] = [
 
 const TWO: [Option<&str>; 4] = [Some("a.toml"), Some("b.toml"), None, None];
 
+// The words of lines of figures.
+const LOG: [Option<&str>; 4] = [None, Some("out.csv"), Some("calls"), Some("network.toml")];
+
+const SCENARIO: [Option<&str>; 4] = [None, None, None, Some("network.toml")];
+
 // Lines, and what they ask for.
-const LINES: [(&str, Asked); 13] = [
+const LINES: [(&str, Asked); 16] = [
     (
         "sqs_rehearse run --window 500 --parts 2 --map 0,1 --workers 4 --log out.csv --scripts calls --quiet network.toml",
         Ok(("run", (Some(500), Some(2), Some(4)), (false, true), ALL)),
@@ -77,12 +88,21 @@ const LINES: [(&str, Asked); 13] = [
         "sqs_rehearse compare --preview a.toml b.toml",
         Ok(("compare", NONE, (true, false), TWO)),
     ),
+    (
+        "sqs_rehearse figures --from 0 --scripts calls network.toml out.csv",
+        Ok(("figures", (Some(0), None, None), (false, false), LOG)),
+    ),
+    (
+        "sqs_rehearse figures --preview network.toml",
+        Ok(("figures", NONE, (true, false), SCENARIO)),
+    ),
     // Words that are no command line.
     ("sqs_rehearse", Err(2)),
     ("sqs_rehearse run --window 0", Err(2)),
     ("sqs_rehearse run --workers x", Err(2)),
     ("sqs_rehearse run --parts 4294967296", Err(2)),
     ("sqs_rehearse compare a", Err(2)),
+    ("sqs_rehearse figures", Err(2)),
     ("sqs_rehearse --help", Err(0)),
 ];
 
