@@ -1,6 +1,8 @@
 //! Ages of deletions, of all and by windows of time.
 ghost use Rattle.std.specs.Prelude.{◌≡◌, map, zip, IfOk, OnOk};
+ghost use Rattle.std.specs.List.Sorted.{IsNonDecreasing};
 ghost use Rattle.sim_report.specs.Figured.{age_numbers, aged_with, no_aged};
+ghost use Rattle.sim_report.specs.Figures.{bound_numbers};
 
 use crate::ages::Ages;
 use crate::asked::Wanted;
@@ -10,6 +12,9 @@ use std::alloc::{AllocError, Global};
 
 /// The number of figures of ages.
 pub(crate) const AGES: usize = 7;
+
+/// The number of bounds of ages.
+pub(crate) const BOUNDS: usize = 10;
 
 /// Ages at which messages were deleted, of all and by windows of time.
 #[derive(Drop)]
@@ -39,6 +44,43 @@ impl Aged {
     {
         self.ages.add(age)?;
         self.windows.add(window, age)
+    }
+
+    /// The bounds of the ages, by these names, where messages that are left have these ages, in
+    /// ascending order, at the last moment of the stretch.
+    ///
+    /// # Errors
+    ///
+    /// `AllocError` if a growth is refused.
+    pub(crate) fn bounds(
+        &self,
+        alloc: Global,
+        wanted: Wanted,
+        left: &[u64],
+        names: [&'static [u8]; BOUNDS],
+    ) -> Result<[Figure; BOUNDS], AllocError>
+        requires { IsNonDecreasing left.now }
+        ensures { IfOk result (λ figures. figures
+            ≡ zip (map (λ n. n.now) names.entry) (bound_numbers wanted self.now.ages self.now.windows left.now)) }
+    {
+        let ended = self.ages.counted(alloc)?;
+        let all = ended.merged(alloc, left)?;
+        let more = left.len();
+        let window = wanted.window_of(wanted.stretch.last());
+        let [window_least, window_most] = self.windows.bounds(alloc, window, left)?;
+        let [a, b, c, d, e, f, g, h, i, j] = names;
+        Ok([
+            Figure::of(a, all.nearest_rank(50)),
+            Figure::of(b, ended.rank_below(50, more)),
+            Figure::of(c, all.nearest_rank(95)),
+            Figure::of(d, ended.rank_below(95, more)),
+            Figure::of(e, all.nearest_rank(99)),
+            Figure::of(f, ended.rank_below(99, more)),
+            Figure::of(g, all.nearest_rank(100)),
+            Figure::of(h, ended.rank_below(100, more)),
+            Figure::of(i, window_least),
+            Figure::of(j, window_most),
+        ])
     }
 
     /// The figures of the ages, by these names.

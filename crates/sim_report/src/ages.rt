@@ -27,8 +27,12 @@ impl Model for Ages {
     ghost view = { λ a. ascending (a.counted ++ a.recent.items) };
 }
 
-// The ages in ascending order.
-fn sorted(alloc: Global, ages: &[u64]) -> Result<Vec<u64>, AllocError>
+/// The ages in ascending order.
+///
+/// # Errors
+///
+/// `AllocError` if a growth is refused.
+pub(crate) fn sorted(alloc: Global, ages: &[u64]) -> Result<Vec<u64>, AllocError>
     ensures { IfOk result (λ v. v.items ≡ ascending ages.now) }
 {
     let mut sorted = ages.to_vec(alloc)?;
