@@ -66,20 +66,29 @@ impl Aged {
         let ended = self.ages.counted(alloc)?;
         let all = ended.merged(alloc, left)?;
         let more = left.len();
-        let window = wanted.window_of(wanted.stretch.last());
-        let [window_least, window_most] = self.windows.bounds(alloc, window, left)?;
-        let [a, b, c, d, e, f, g, h, i, j] = names;
+        let last = wanted.window_of(wanted.stretch.last());
+        let [least, most] = self.windows.bounds(alloc, last, left)?;
+        let [
+            p50_least,
+            p50_most,
+            p95_least,
+            p95_most,
+            p99_least,
+            p99_most,
+            ..
+        ] = names;
+        let [.., greatest_least, greatest_most, window_least, window_most] = names;
         Ok([
-            Figure::of(a, all.nearest_rank(50)),
-            Figure::of(b, ended.rank_below(50, more)),
-            Figure::of(c, all.nearest_rank(95)),
-            Figure::of(d, ended.rank_below(95, more)),
-            Figure::of(e, all.nearest_rank(99)),
-            Figure::of(f, ended.rank_below(99, more)),
-            Figure::of(g, all.nearest_rank(100)),
-            Figure::of(h, ended.rank_below(100, more)),
-            Figure::of(i, window_least),
-            Figure::of(j, window_most),
+            Figure::of(p50_least, all.nearest_rank(50)),
+            Figure::of(p50_most, ended.rank_below(50, more)),
+            Figure::of(p95_least, all.nearest_rank(95)),
+            Figure::of(p95_most, ended.rank_below(95, more)),
+            Figure::of(p99_least, all.nearest_rank(99)),
+            Figure::of(p99_most, ended.rank_below(99, more)),
+            Figure::of(greatest_least, all.nearest_rank(100)),
+            Figure::of(greatest_most, ended.rank_below(100, more)),
+            Figure::of(window_least, least),
+            Figure::of(window_most, most),
         ])
     }
 
