@@ -1,5 +1,6 @@
 //! Messages that are there.
 ghost use Rattle.std.specs.Prelude.{◌≡◌, [], IfOk, OnOk};
+ghost use Rattle.std.specs.List.Sorted.{IsNonDecreasing};
 ghost use Rattle.sim_report.specs.Figures.{age_of_oldest, ages_at, apart, there_with};
 ghost use Rattle.sqs_formats.specs.Report.{ascending};
 
@@ -77,7 +78,8 @@ impl There {
     ///
     /// `AllocError` if a growth is refused.
     pub(crate) fn ages(&self, alloc: Global, at: u64) -> Result<Vec<u64>, AllocError>
-        ensures { IfOk result (λ v. v.items ≡ ascending (ages_at at self.now)) }
+        ensures same { IfOk result (λ v. v.items ≡ ascending (ages_at at self.now)) }
+        ensures ascends { IfOk result (λ v. IsNonDecreasing v.items) }
     {
         let ages = ages_at(alloc, &self.came, at)?;
         sorted(alloc, ages.as_slice())
@@ -95,8 +97,9 @@ impl There {
         numbers: &Numbers,
         among: bool,
     ) -> Result<Vec<u64>, AllocError>
-        ensures { IfOk result (λ v. v.items
+        ensures same { IfOk result (λ v. v.items
             ≡ ascending (ages_at at (apart among numbers.now self.now))) }
+        ensures ascends { IfOk result (λ v. IsNonDecreasing v.items) }
     {
         let ages = ages_apart(alloc, &self.came, at, numbers, among)?;
         sorted(alloc, ages.as_slice())
