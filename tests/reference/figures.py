@@ -260,6 +260,57 @@ def ages_apart(rows: Sequence[Fields], queues: Container[str], stretch: Stretch,
     yield from ages("moved_age", [row for is_moved, row in moved if is_moved], stretch.first, length)
 
 
+def bound(percent: int, found: Sequence[int], left: int) -> Optional[int]:
+    """The rank if so many more ages are greater than all others; None if one of those is it."""
+    place = -(-percent * (len(found) + left) // 100)
+    return sorted(found)[place - 1] if 0 < place <= len(found) else None
+
+
+def bounds(name: str, rows: Sequence[Fields], left: Sequence[int], stretch: Stretch, length: int
+           ) -> Iterator[tuple[str, Optional[int]]]:
+    """The least and the greatest that each rank of the ages of rows that delete can be, and the worst window, where
+    messages that are left have these ages at the last moment: as if each was deleted then, and as if none ever was."""
+    found = [int(row.detail) for row in rows]
+    for end, percent in ("p50", 50), ("p95", 95), ("p99", 99), ("greatest", 100):
+        yield f"{name}_{end}_least_ms", rank(percent, [*found, *left])
+        yield f"{name}_{end}_most_ms", bound(percent, found, len(left))
+    places = [(int(row.at) - stretch.first) // length for row in rows]
+    last = max(0, stretch.end - 1 - stretch.first) // length
+    in_last = [age for age, place in zip(found, places) if place == last]
+    before = [rank(95, [age for age, of in zip(found, places) if of == place]) or 0 for place in {*places} - {last}]
+    yield f"{name}_window_p95_least_ms", max([*before, *([rank(95, [*in_last, *left]) or 0] if in_last or left else [])],
+                                             default=None)
+    most = bound(95, in_last, len(left))
+    is_open = most is None and bool(left)
+    yield f"{name}_window_p95_most_ms", None if is_open else max([*before, *([] if most is None else [most])],
+                                                                 default=None)
+
+
+def there(rows: Iterable[Fields], stretch: Stretch) -> dict[str, int]:
+    """How long each message that is left has been there at the last moment of a stretch."""
+    came: dict[str, int] = {}
+    for row in rows:
+        if row.said() in COMES:
+            came[row.message] = int(row.at)
+        elif row.said() in LEAVES:
+            came.pop(row.message, None)
+    return {message: max(0, stretch.end - 1 - at) for message, at in came.items()}
+
+
+def bounds_apart(rows: Sequence[Fields], queues: Container[str], stretch: Stretch, length: int
+                 ) -> Iterator[tuple[str, Optional[int]]]:
+    """The bounds of the ages of all messages, of those that came by no move, and of the others."""
+    moves = [*of_moved(rows, queues)]
+    deleted = [(is_moved, row) for is_moved, row in zip(moves, rows)
+               if stretch.has(row) and row.said() == "delete deleted"]
+    moved = {row.message for is_moved, row in zip(moves, rows) if is_moved}
+    left = there(rows, stretch)
+    yield from bounds("age", [row for _, row in deleted], [*left.values()], stretch, length)
+    for name, wanted in ("new_age", False), ("moved_age", True):
+        yield from bounds(name, [row for is_moved, row in deleted if is_moved == wanted],
+                          [age for message, age in left.items() if (message in moved) == wanted], stretch, length)
+
+
 def figures_text(scenario: "Scenario", made: Iterable["Row"], first: int, end: int, most: int = BACKLOG,
                  length: int = WINDOW) -> str:
     """The figures of all agents, over the part of a stretch that lies in the run."""
@@ -274,7 +325,7 @@ def figures_text(scenario: "Scenario", made: Iterable["Row"], first: int, end: i
         if name in queues:
             figures += [*peak("depth", depths(own), own, stretch), *peak("in_flight", flights(own), own, stretch),
                         *oldest(own, stretch), *left(own, queues[name], most, stretch), *tries(own, stretch),
-                        *ages_apart(own, queues, stretch, length)]
+                        *ages_apart(own, queues, stretch, length), *bounds_apart(own, queues, stretch, length)]
         else:
             figures += services(own, stretch)
         lines += [["figure", name, figure, "" if value is None else value] for figure, value in figures]

@@ -4,6 +4,7 @@ from __future__ import annotations
 
 import csv
 import io
+import math
 import os
 import subprocess
 import sys
@@ -13,8 +14,9 @@ from test_runs import random_scenario
 from test_summary import LOG, PARTS
 from tool import PROGRAM, ROOT, ToolCase, needs_program
 from rehearse_tools import runs
-from rehearse_tools.figures import COLUMNS, OF_QUEUE, Figures
+from rehearse_tools.figures import AGES, COLUMNS, OF_QUEUE, Figures
 from rehearse_tools.scenarios import consumers_of, names_of, parsed
+from rehearse_tools.statistics import Interval
 
 sys.path.insert(0, os.path.join(ROOT, "tests", "reference"))
 from figures import Fields, Stretch, busy, depths, flights, peak, tries  # noqa: E402 (of the folder above)
@@ -43,6 +45,12 @@ figure,right,busy_ms,2800
 figure,third,busy_ms,400
 """
 CONSUMERS = {"a": ["left", "right", "third"]}
+# Figures that are made up, each of another number.
+MADE_UP = ["requests", "backlog_gone_at_ms", "backlog_since_ms", *(f"{age}_ms" for age in AGES.values()),
+           *(f"{age}_{bound}_ms" for age in AGES.values() for bound in ("least", "most"))]
+FIGURES += "".join(f"figure,{queue},{name},{number}\n" for queue, start in (("a", 100), ("d", 200))
+                   for number, name in enumerate(MADE_UP, start) if name != "backlog_since_ms")
+FIGURES += "figure,a,backlog_since_ms,\nfigure,d,backlog_since_ms,7\n"
 # Three messages wait from 2 ms on. The consumer slow is busy from 1000 to 3500 ms; quick is from 1100 to 1600 ms, and
 # from the next millisecond on, to 2101 ms. So two are in flight at 1100 ms, and q has two from 1600 ms on. The queue
 # idle has no consumer, but an actor of another kind.
@@ -109,12 +117,13 @@ class Readers(ToolCase):
         """The report is that of the program, or it is counted from the log."""
         plain, more = ([io.StringIO(LOG + PARTS + figures) for _ in range(2)] for figures in ("", FIGURES))
         self.assertEqual(runs.report_of(more[0]), runs.report_of(plain[0]))
+        assert runs.report_of(io.StringIO(LOG + PARTS)) is not None
         self.assertEqual(*(runs.reported(stream, runs.Counting(0, 60_200)) for stream in (plain[1], more[1])))
 
     def test_damage(self) -> None:
         """A line that is cut, or has other fields, is damage here as elsewhere."""
         for damaged, told in ((FIGURES[:-1], " ends within a line"),
-                              (FIGURES + "figure,a,sent\n", " line 51 is no record of the part figure after a log")):
+                              (FIGURES + "figure,a,sent\n", " line 101 is no record of the part figure after a log")):
             path = self.write("run.txt", LOG + PARTS + damaged)
             self.assert_fault(self.run_tool("summary", path), f"summary: {path}{told}")
 
@@ -134,18 +143,39 @@ class ByHand(unittest.TestCase):
     def test_columns(self) -> None:
         """Of 62.5 s left is busy for 4.5 s, which is 7.2 %. Nothing consumes d."""
         figures, counting = Figures(0, 62_499, CONSUMERS), runs.Counting(0, 62_499, runs.Extra(with_figures=True))
-        by_report = runs.report_of(io.StringIO(LOG + PARTS + FIGURES), figures)
-        by_log, _ = runs.reported(io.StringIO(LOG + PARTS + FIGURES), counting, figures) or ([], {})
+        by_report, bounds = runs.report_of(io.StringIO(LOG + PARTS + FIGURES), figures) or ([], {})
+        by_log, ages = runs.reported(io.StringIO(LOG + PARTS + FIGURES), counting, figures) or ([], {})
         self.assertEqual(by_report, by_log)
-        self.assertEqual([[record[0], *record[-len(COLUMNS):]] for record in by_log],
+        self.assertEqual({name: found.bounds for name, found in bounds.items()},
+                         {name: found.bounds for name, found in ages.items()})
+        self.assertEqual([[record[0], *record[-6:]] for record in by_log],
                          [["a", "200", "3", "300", "1", "2", "7.2"], ["d", "5220", "0", "0", "0", "0", ""]])
+        first = 1 + len(runs.ALL_COLUMNS) - len(COLUMNS)
+        self.assertEqual([record[first:-6] for record in by_log],
+                         [["100", "", "101", "103", "104", "105", "106", "107", "108", "109"],
+                          ["200", "", "", "203", "204", "205", "206", "207", "208", "209"]])
+        self.assertEqual([ages["a"].bounds[column] for column in AGES],
+                         [Interval(low, low + 1) for low in range(110, 124, 2)])
+
+    def test_bounds_and_moments_that_are_open(self) -> None:
+        """No bound above, no bound below, no backlog; and what a million requests cost."""
+        text = FIGURES
+        for line, other in (("new_age_p50_least_ms,110", "new_age_p50_least_ms,"), ("new_age_p50_most_ms,111", "new_age_p50_most_ms,"),
+                            ("backlog_gone_at_ms,101", "backlog_gone_at_ms,")):
+            self.assertIn(f"figure,a,{line}\n", text)
+            text = text.replace(f"figure,a,{line}\n", f"figure,a,{other}\n")
+        figures = Figures(0, 62_499, CONSUMERS, 1_000, 0.5)
+        self.assertEqual(figures.words(), ["--figures", "--from", "0", "--window-figures", "1000"])
+        texts, bounds = (figures.found_in(csv.reader(io.StringIO(text)), ["a"]) or {})["a"]
+        self.assertEqual(bounds["new_age_p50"], Interval(0, math.inf))
+        self.assertEqual(texts[1:3], ["0.00005", "0"])
 
     def test_shares_of_time(self) -> None:
         """They are rounded down, so that 100 is all the time."""
         for length, share in ((4500, "100"), (4501, "99.97"), (7000, "64.28"), (45_000_000, "0.01"), (10**9, "0")):
             figures = Figures(10, 9 + length, CONSUMERS)
-            found = figures.columns_of(csv.reader(io.StringIO(FIGURES)), ["a"])
-            self.assertEqual(found, [["200", "3", "300", "1", "2", share]])
+            found = figures.found_in(csv.reader(io.StringIO(FIGURES)), ["a"]) or {}
+            self.assertEqual(found["a"][0][-6:], ["200", "3", "300", "1", "2", share])
 
     def test_figures_that_are_not_there(self) -> None:
         """A run whose figures are cut has no report: each of these lines is needed but the first and the counts."""
@@ -185,8 +215,8 @@ class Sweeps(ToolCase):
                 self.rows("--columns", words, *more, "--program", path)
                 with open(self.path("asked"), encoding="utf-8") as file:
                     asked.append(file.read().splitlines()[-1].partition(" --scripts ")[2].partition(" ")[2])
-        self.assertEqual(asked, ["--figures --from 0 --log /dev/null", "--figures --from 2000"] * 2
-                         + ["--figures --from 0", "--figures --from 2000"] * 2 + ["--log /dev/null", ""])
+        whole, later = (f"--figures --from {first} --window-figures 300000" for first in (0, 2000))
+        self.assertEqual(asked, [f"{whole} --log /dev/null", later] * 3 + [whole, later, "--log /dev/null", ""])
 
     def test_requirements(self) -> None:
         """A share of time is in percent, and a moment is a time."""
@@ -243,10 +273,10 @@ class Sweeps(ToolCase):
                               *peak("in_flight", flights(own), own, stretch), *tries(own, stretch)])
                 times = [busy([row for row in rows if row.agent == agent], stretch)
                          for agent in consumers.get(name, ())]
-                wanted = [str(found[figure]) for figure in OF_QUEUE.values()]
+                wanted = [str(found[figure]) for figure in list(OF_QUEUE.values())[-5:]]
                 share = str(10_000 * max(times) // (end + 1 - first)) if times else ""
                 with self.subTest(seed=seed, queue=name):
-                    self.assertEqual(numbers[-len(COLUMNS):-1], wanted)
+                    self.assertEqual(numbers[-6:-1], wanted)
                     self.assertEqual(numbers[-1] and f"{100 * float(numbers[-1]):.0f}", share)
                 are_rich += len(times) > 1 and max(times) > 0
             self.assertEqual(len(ran.records or []), len(names_of(scenario, "queue")), ran.told)

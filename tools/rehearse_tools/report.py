@@ -39,8 +39,7 @@ from typing import IO, Any, NamedTuple
 from .console import (Fault, Parser, check_library, check_output, check_title, command_of, library, read_bytes,
                       read_text, shown, tell, write_text)
 from .drawing import ALARM, COLOURS, unit_of
-from .figures import Figures, figure_words
-from .further import COST
+from .figures import COST, Figures
 from .histories import (PLACES, Course, Histories, History, ages_are_spread, ages_in, counts_in, course_of, edges,
                         levels, oldest)
 from .logs import Log
@@ -371,8 +370,8 @@ def extra_of_all(requirements: Iterable[Requirement]) -> Extra:
 
 def program_words(options: Namespace) -> list[str]:
     """The program's options: how the scenario is read, and figures if something is required of them."""
-    is_on_figures = extra_of_all(map(Requirement, options.require)).with_figures
-    return [*reading_words(options), *(figure_words(options.first or 0) if is_on_figures else ())]
+    figures = extra_of_all(map(Requirement, options.require)).figures(options.first or 0, 0, {})
+    return [*reading_words(options), *(figures.words() if figures else ())]
 
 
 def counted_at(path: str, counting: Counting, figures: Figures | None) -> CountedRun:
@@ -389,7 +388,7 @@ def page(options: Namespace, words: Sequence[str], text: str, path: str) -> tupl
     requirements = [Requirement(requirement) for requirement in options.require]
     first, end = options.first or 0, min(scenario["horizon"], options.last or scenario["horizon"])
     counting = Counting(first, end, extra_of_all(requirements), ways_of(scenario))
-    figures = Figures(first, end, consumers_of(scenario)) if counting.extra.with_figures else None
+    figures = counting.extra.figures(first, end, consumers_of(scenario))
     counted = functools.cache(lambda: counted_at(path, counting, figures))
     found = judged(requirements, run.queues, counted, bool(options.first))
     body = lost_html(run) + requirements_html(found)

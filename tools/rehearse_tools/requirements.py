@@ -12,8 +12,8 @@ from typing import NamedTuple
 
 from .console import Fault, shown
 from .doors import DOOR_SHARES
-from .figures import BUSY, MOMENTS
-from .further import BACKLOG_GONE, CENSORED, MOVED_SHARES, NEW_SHARES
+from .figures import AGES as CENSORED
+from .figures import BACKLOG_GONE, BUSY, MOMENTS, MOVED_AGES, NEW_AGES
 from .logs import PLACES
 from .runs import ALL_COLUMNS, COLUMNS, EXTRA_COLUMNS, PERCENTILES, Ages
 from .statistics import (Interval, censored_percentile, half_width, holds_within, mean_of, rank_of, share_left,
@@ -114,7 +114,8 @@ class Requirement:
         number, left = number_of(text), self.left_told(numbers, ages)
         if not left or self.column not in (*SHARES, *CENSORED):
             return None if self.holds(number, self.bound) else Failure("fails", self.told_number(number))
-        interval = bounds_by_report(self.column, numbers) if ages is None else bounds_by_ages(self.column, ages)
+        interval = bounds_by_ages(self.column, ages) if ages else None
+        interval = interval or bounds_by_report(self.column, numbers)
         is_held = holds_within(interval, self.holds, self.bound)
         if is_held:
             return None
@@ -136,7 +137,7 @@ class Requirement:
             return "a backlog is there at the end"
         if self.column == BUSY:
             return "it has no consumer"
-        kind = "new " if self.column in NEW_SHARES else "moved " if self.column in MOVED_SHARES else ""
+        kind = "new " if self.column in NEW_AGES else "moved " if self.column in MOVED_AGES else ""
         return f"no {kind}message was deleted" + (self.column in DOOR_SHARES) * (
             ", or of one it is open when it was first sent (summary --door tells)")
 
@@ -172,10 +173,12 @@ def bounds_by_report(column: str, numbers: Sequence[str]) -> Interval:
                     min((age for place, age in ranks if place >= rank), default=math.inf))
 
 
-def bounds_by_ages(column: str, ages: Ages) -> Interval:
-    """The same if it is known how old each message is that is left."""
+def bounds_by_ages(column: str, ages: Ages) -> Interval | None:
+    """The same if it is known how old each message is that is left; None if it is not."""
     if column in ages.bounds:
         return ages.bounds[column]
     known = ages.since_first_send or ages if column in DOOR_SHARES else ages
+    if known.deleted is None:
+        return None
     deleted = list(Counter(known.deleted).elements())
     return censored_percentile(deleted, known.left, SHARES[column], known.may_come) or Interval(0, math.inf)

@@ -20,18 +20,16 @@ from typing import Any, NamedTuple, TextIO
 from .console import Fault
 from .doors import DOOR_SHARES, Doors
 from .figures import COLUMNS as OF_FIGURES
-from .figures import Figures, figure_words
-from .further import COLUMNS as FURTHER
-from .further import WINDOW, Further
+from .figures import WINDOW, Figures
 from .logs import FIGURE_HEADER, FINAL_HEADER, PLACES, REPORT_HEADER, Block, Head, Log, What, blocks_in, counted_columns
 from .logs import Take as TakeRow
-from .replay import Replay, both, handlers_of, replay
+from .replay import Replay, handlers_of, replay
 from .starting import started
 from .statistics import Interval, at_rank, rank_of
 
 COLUMNS = REPORT_HEADER[2:]
 # With those that a report does not have: some for which the log is read, and figures.
-EXTRA_COLUMNS = [*DOOR_SHARES, *FURTHER, *OF_FIGURES]
+EXTRA_COLUMNS = [*DOOR_SHARES, *OF_FIGURES]
 ALL_COLUMNS = [*COLUMNS, *EXTRA_COLUMNS]
 PERCENTILES = {"age_p50": 0.5, "age_p95": 0.95, "age_p99": 0.99, "age_max": 1.0}
 Watch = Callable[["subprocess.Popen[bytes]"], AbstractContextManager[object]]
@@ -43,10 +41,10 @@ Engine = Callable[[list[str], str, Take], "Ended"]
 
 class Ages(NamedTuple):
     """The ages of a queue's messages in milliseconds: how many were deleted at each, and how old each one that is left
-    is at the end. `since_first_send` has the same since the first send, with those that may still come; `bounds` has
-    the bounds of further columns. Both are there if they are asked for."""
-    deleted: Mapping[int, int]
-    left: list[int]
+    is at the end; None and nothing if the log was not read. `since_first_send` has the same since the first send, with
+    those that may still come; `bounds` has the bounds of figures. Both are there if they are asked for."""
+    deleted: Mapping[int, int] | None = None
+    left: Sequence[int] = ()
     may_come: Sequence[int] = ()
     since_first_send: "Ages | None" = None
     bounds: Mapping[str, Interval] = {}
@@ -54,12 +52,11 @@ class Ages(NamedTuple):
 
 class Ran(NamedTuple):
     """The result of a run: the program's status; the records of the report, each from its queue's name on, or None if
-    there is none; the first line on standard error; and, if the log was read, the ages by queue."""
+    there is none; the first line on standard error; and, if the log was read or figures are wanted, the ages by queue."""
     status: int
     records: list[list[str]] | None
     told: str
     ages: dict[str, Ages]
-
 
 
 class QueueCounts:
@@ -155,29 +152,30 @@ class Output(Log):
 
 
 class Extra(NamedTuple):
-    """What is wanted beside the report: the ages since the first send, further columns, the length of a window in
-    milliseconds, the price of a million requests, and figures."""
+    """What is wanted beside the report: the ages since the first send, for which the log must be read, and figures, with
+    the length of a window in milliseconds and the price of a million requests."""
     with_doors: bool = False
-    with_further: bool = False
+    with_figures: bool = False
     window: int = WINDOW
     price: float | None = None
-    with_figures: bool = False
 
     @property
     def is_any(self) -> bool:
-        return self.is_by_log or self.with_figures
+        return self.with_doors or self.with_figures
 
-    @property
-    def is_by_log(self) -> bool:
-        """Whether the log must be read."""
-        return self.with_doors or self.with_further
+    def figures(self, first: int, end: int, consumers: Mapping[str, Sequence[str]]) -> Figures | None:
+        """The figures of a run from a moment to its end, if they are wanted, by the names of each queue's consumers."""
+        return Figures(first, end, consumers, self.window, self.price) if self.with_figures else None
 
 
 def extra_of(columns: Iterable[str], window: int = WINDOW, price: float | None = None) -> Extra:
     """What is to be counted for some columns."""
     wanted = set(columns)
-    return Extra(not wanted.isdisjoint(DOOR_SHARES), not wanted.isdisjoint(FURTHER), window, price,
-                 not wanted.isdisjoint(OF_FIGURES))
+    return Extra(not wanted.isdisjoint(DOOR_SHARES), not wanted.isdisjoint(OF_FIGURES), window, price)
+
+
+# The records of a report, each from its queue's name on, and the ages by queue.
+Reported = tuple[list[list[str]], dict[str, Ages]]
 
 
 class Counting(NamedTuple):
@@ -196,29 +194,23 @@ class Counts:
         first, self.end, extra, ways = counting
         self.queues: dict[str, QueueCounts] = {}
         self.doors = Doors(first, ways) if extra.with_doors else None
-        self.further = Further(first, extra.window, extra.price) if extra.with_further else None
         self.rows = Replay(self.queues, lambda name: self.queues.setdefault(name, QueueCounts()), HANDLERS,
                            self.follower)
         self.rows.moments = [(first, self.begin)]
 
     def follower(self, head: Head) -> TakeRow | None:
         """What takes the rows with a head beside their queue."""
-        takes = [take for of in (self.doors, self.further) if of and (take := of.take_of(head))]
-        return both(*takes) if len(takes) == 2 else takes[0] if takes else None
+        return self.doors.take_of(head) if self.doors else None
 
     def begin(self) -> None:
         """Forgets what was counted before."""
         self.rows.count()
         for queue in self.queues.values():
             queue.begin()
-        if self.further:
-            self.further.begin()
 
-    def left(self, name: str, message: str, place: str, enqueued: int) -> None:
+    def left(self, name: str, place: str, enqueued: int) -> None:
         """Takes in a message that is left, by the final queues."""
         self.queues.setdefault(name, QueueCounts()).left(place, enqueued)
-        if self.further:
-            self.further.of(name).is_left(message, self.end - enqueued)
 
     def reported(self, names: Iterable[str]) -> tuple[list[list[str]], dict[str, Ages]]:
         """The records of a report on queues with these names, each with those extra columns that are counted, and the
@@ -233,11 +225,8 @@ class Counts:
                 of_queue = of_queue._replace(since_first_send=Ages(
                     self.doors.ages_of(name), [self.end - at for at in left.there.get(name, ())],
                     [self.end - at for at in left.may_come(name)]))
-            if self.doors or self.further:
-                record += text_of(self.doors.columns(name) if self.doors else dict.fromkeys(DOOR_SHARES))
-            if self.further:
-                numbers = self.further.numbers_of(name, queue.kinds, self.end)
-                record, of_queue = [*record, *numbers.texts], of_queue._replace(bounds=numbers.bounds)
+            if self.doors:
+                record += text_of(self.doors.columns(name))
             records.append(record)
             ages[name] = of_queue
         return records, ages
@@ -248,7 +237,7 @@ def text_of(columns: Mapping[str, int | None]) -> list[str]:
 
 
 def reported(stream: TextIO, counting: Counting,
-             figures: Figures | None = None) -> tuple[list[list[str]], dict[str, Ages]] | None:
+             figures: Figures | None = None) -> Reported | None:
     """The records of a report that are counted from what a run prints, in its order, with the figures that are wanted,
     and the ages by queue; None if that is no log with its report."""
     counts, output = Counts(counting), Output(stream)
@@ -257,24 +246,26 @@ def reported(stream: TextIO, counting: Counting,
     for record in output.records:
         if record[0] == "final" and len(record) == len(FINAL_HEADER):
             output.take_record(record)
-            counts.left(record[1], record[2], record[4], int(record[6]))
+            counts.left(record[1], record[4], int(record[6]))
         elif record == REPORT_HEADER:
             if not output.has_whole_report():
                 return None
             records, ages = counts.reported(output.report)
-            completed = with_extra(records, figures, output.figures) if counting.extra.is_any else records
-            return None if completed is None else (completed, ages)
+            return with_extra(records, ages, figures, output.figures) if counting.extra.is_any else (records, ages)
     return None
 
 
-def with_extra(records: Sequence[list[str]], figures: Figures | None,
-               behind: Iterable[Sequence[str]]) -> list[list[str]] | None:
+def with_extra(records: Sequence[list[str]], ages: Mapping[str, Ages], figures: Figures | None,
+               behind: Iterable[Sequence[str]]) -> Reported | None:
     """The records of a report with all extra columns: those that are not counted are empty, and figures are among what
-    is behind the report. None if a figure that is wanted is not there."""
+    is behind the report. The ages by queue have the bounds of figures. None if a figure that is wanted is not there."""
     names = [record[0] for record in records]
-    found = figures.columns_of(behind, names) if figures else [[""] * len(OF_FIGURES) for _ in names]
+    found = figures.found_in(behind, names) if figures else {name: ([""] * len(OF_FIGURES), {}) for name in names}
+    if found is None:
+        return None
     width = 1 + len(ALL_COLUMNS) - len(OF_FIGURES)
-    return found and [[*record, *[""] * (width - len(record)), *texts] for record, texts in zip(records, found)]
+    return ([[*record, *[""] * (width - len(record)), *found[record[0]][0]] for record in records],
+            {name: ages.get(name, Ages())._replace(bounds=found[name][1]) for name in names})
 
 
 def columns_in(header: Sequence[str]) -> list[str]:
@@ -286,14 +277,14 @@ def is_no_figure(record: Sequence[str]) -> bool:
     return record[:1] != FIGURE_HEADER[:1]
 
 
-def report_of(stream: TextIO, figures: Figures | None = None) -> list[list[str]] | None:
-    """The records of the report that a run prints, each from its queue's name on, with the figures that are wanted;
-    None if there is no report."""
+def report_of(stream: TextIO, figures: Figures | None = None) -> Reported | None:
+    """The records of the report that a run prints, each from its queue's name on, with the figures that are wanted and
+    their bounds by queue; None if there is no report."""
     rest = csv.reader(stream)
     if REPORT_HEADER not in rest:
         return None
     records = [record[1:] for record in takewhile(is_no_figure, rest)]
-    return with_extra(records, figures, rest) if figures else records
+    return with_extra(records, {}, figures, rest) if figures else (records, {})
 
 
 class Ended(NamedTuple):
@@ -326,14 +317,14 @@ def first_line(told: bytes) -> str:
 def run(command: list[str], text: str, counting: Counting | None, engine: Engine = piped,
         figures: Figures | None = None) -> Ran:
     """Runs a scenario's text by the command of the program, with the figures that are wanted. Where nothing is to be
-    counted the report is the program's, which then writes no log, and no ages are known."""
+    counted the report is the program's, which then writes no log, and no ages are known but the bounds of figures."""
     if figures:
-        command = [*command, *figure_words(figures.first)]
+        command = [*command, *figures.words()]
     if counting is None:
-        status, told, report = engine([*command, "--log", os.devnull], text, partial(report_of, figures=figures))
-        return Ran(status, None if status else report, told, {})
-    status, told, counts = engine(command, text, partial(reported, counting=counting, figures=figures))
-    if not counts:
+        status, told, found = engine([*command, "--log", os.devnull], text, partial(report_of, figures=figures))
+    else:
+        status, told, found = engine(command, text, partial(reported, counting=counting, figures=figures))
+    if not found:
         return Ran(status, None, told, {})
-    records, ages = counts
+    records, ages = found
     return Ran(status, None if status else records, told, ages)

@@ -108,7 +108,7 @@ from .console import (Fault, Parser, check_library, check_output, print_text, sh
                       write_text)
 from .decisions import Requirements
 from .drawing import FORMATS, bytes_of
-from .further import COST, WINDOW
+from .figures import COST, WINDOW
 from .jobs import Jobs, collect, head_of, print_jobs, run_share, scripts_of
 from .junit import text_of
 from .programs import named_program, program_of

@@ -17,7 +17,6 @@ from contextlib import contextmanager
 from typing import Any, NamedTuple
 
 from .console import Fault, Progress, is_terminal, read_bytes, read_text, stop, take_signals, tell, write_bytes
-from .figures import Figures
 from .keys import PREVIEW
 from .programs import preview_words
 from .runs import ALL_COLUMNS, COLUMNS, Ages, Counting, Ended, Engine, Extra, Ran, Take, piped, run
@@ -280,7 +279,7 @@ class Sweep:
         scenario = self.varied(words)
         first, end = self.window.first or 0, horizon_of(scenario)
         counting = Counting(first, end, self.extra, ways_of(scenario)) if is_counted else None
-        figures = Figures(first, end, consumers_of(scenario)) if self.extra.with_figures else None
+        figures = self.extra.figures(first, end, consumers_of(scenario))
         return run(self.command(), written(scenario), counting, self.engine, figures)
 
     def taken(self, scenarios: Sequence[dict[str, Any]], take: Take, jobs: int) -> list[Any]:
@@ -296,8 +295,9 @@ class Sweep:
         words = self.settings.words(number)
         if self.interrupted:
             return Outcome([], {}, True)
-        ran = self.run(words, self.extra.is_by_log or self.window.first is not None)
-        if ran.records is not None and not ran.ages and self.needs_ages(ran.records):
+        is_counted = self.extra.with_doors or self.window.first is not None
+        ran = self.run(words, is_counted)
+        if ran.records is not None and not is_counted and self.needs_ages(ran.records):
             ran = self.run(words, True)
         words = [word.strip('"') for word in words]
         if ran.records is None:

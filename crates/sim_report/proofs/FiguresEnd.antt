@@ -1,5 +1,5 @@
 -- The running figures at the end are the figures.
-use Rattle.std.proofs.Common.{◌≡◌, ℕ, ◌+◌, List, [], ◌∷◌, ◌++◌, Some, length, map, refl, sym, ap, ◌∙◌}
+use Rattle.std.proofs.Common.{◌≡◌, ℕ, ◌+◌, true, false, List, [], ◌∷◌, ◌++◌, Some, length, map, refl, sym, ap, ◌∙◌}
 use Rattle.std.specs.Prelude.{codes, flat_map}
 use Rattle.std.specs.List.{enumerate_from}
 use Rattle.std.proofs.lemmas.List.{append_assoc, map-append}
@@ -10,8 +10,8 @@ use Rattle.sqs_formats.specs.Rows.{line, lines}
 use Rattle.sim_report.specs.declared.asked.QueueAsked.{QueueAsked}
 use Rattle.sim_report.specs.declared.asked.Wanted.{Wanted}
 use Rattle.sim_report.specs.declared.stretch.Stretch.{Stretch}
-use Rattle.sim_report.specs.Figures.{Figure, FiguresAsked, actor_figures, backlog_gone, backlog_since, figure_fields, figures_header, figures_of_actor, figures_of_queue, figures_records, figures_text, in_flight, is_full, is_serving, named_ages, named_counts, named_left, named_requests, named_tries, queue_figures, rows_by, rows_of_moved, rows_of_new, rows_until, rows_within, tries, tries_of}
-use Rattle.sim_report.specs.Figured.{ActorState, QueueState, actor_numbers, actor_records, actor_state, aged_of, ages_named, figured, figured_before, fresh_actor, fresh_queue, left_by, peaks_by, queue_ages, queue_numbers, queue_records, queue_state}
+use Rattle.sim_report.specs.Figures.{Figure, FiguresAsked, actor_figures, apart, backlog_gone, backlog_since, figure_fields, figures_header, figures_of_actor, figures_of_queue, figures_records, figures_text, in_flight, is_full, is_serving, named_ages, named_counts, named_left, named_requests, named_tries, queue_bounds, queue_figures, rows_by, rows_of_moved, rows_of_new, rows_until, rows_within, tries, tries_of}
+use Rattle.sim_report.specs.Figured.{ActorState, QueueState, actor_numbers, actor_records, actor_state, aged_of, ages_named, bounds_by, bounds_named, figured, figured_before, fresh_actor, fresh_queue, left_by, peaks_by, queue_ages, queue_numbers, queue_records, queue_state}
 use Rattle.sim_report.proofs.Ascending.{sum_by-ascending}
 use Rattle.sim_report.proofs.Groups.{rank-ascending}
 use Rattle.sim_report.proofs.Figuring.{lasting-end}
@@ -39,10 +39,10 @@ ages-are n w asked rows =
     ∙ ap (λ (fs : List Figure). named_ages (codes "age") w all ++ (fs ++ ages_named (codes "moved_age") w (aged_of w moved))) (ages-named (codes "new_age") w new)
     ∙ ap (λ (fs : List Figure). named_ages (codes "age") w all ++ (named_ages (codes "new_age") w new ++ fs)) (ages-named (codes "moved_age") w moved)
 
--- the lines of the figures of ages, which are added one after another
-ages-lines_of : (f : Figure → List (List ℕ)) (text : List ℕ) (xs ys zs : List Figure)
+-- the lines of three lists of figures, which are added one after another
+three-lines : (f : Figure → List (List ℕ)) (text : List ℕ) (xs ys zs : List Figure)
     → ((text ++ lines (map f xs)) ++ lines (map f ys)) ++ lines (map f zs) ≡ text ++ lines (map f (xs ++ (ys ++ zs)))
-ages-lines_of f text xs ys zs =
+three-lines f text xs ys zs =
     let said : List Figure → List ℕ = λ fs. lines (map f fs) in
     let both : (us vs : List Figure) → said (us ++ vs) ≡ said us ++ said vs =
     λ us vs. ap lines (map-append f us vs) ∙ flat_map-append line (map f us) (map f vs) in
@@ -54,7 +54,16 @@ pub ages-lines : (f : Figure → List (List ℕ)) (text : List ℕ) (w : Wanted)
     ≡ text ++ lines (map f (queue_ages w q))
 unfolding queue_ages
 ages-lines f text w q =
-    ages-lines_of f text (ages_named (codes "age") w q.ages) (ages_named (codes "new_age") w q.new_ages) (ages_named (codes "moved_age") w q.moved_ages)
+    three-lines f text (ages_named (codes "age") w q.ages) (ages_named (codes "new_age") w q.new_ages) (ages_named (codes "moved_age") w q.moved_ages)
+
+pub bounds-lines : (f : Figure → List (List ℕ)) (text : List ℕ) (w : Wanted) (q : QueueState)
+    → ((text ++ lines (map f (bounds_named (codes "age") w q.there q.ages))) ++ lines (map f (bounds_named (codes "new_age") w (apart false q.moved q.there) q.new_ages)))
+    ++ lines (map f (bounds_named (codes "moved_age") w (apart true q.moved q.there) q.moved_ages))
+    ≡ text ++ lines (map f (bounds_by w q))
+unfolding bounds_by
+bounds-lines f text w q =
+    three-lines f text (bounds_named (codes "age") w q.there q.ages) (bounds_named (codes "new_age") w (apart false q.moved q.there) q.new_ages)
+    (bounds_named (codes "moved_age") w (apart true q.moved q.there) q.moved_ages)
 
 -- what is left of a queue's messages, and for how long
 left-is : (n : ℕ) (w : Wanted) (asked : QueueAsked) (rows : List Row) → left_by w (queue_state n w asked rows) ≡ named_left asked w rows
@@ -66,12 +75,12 @@ left-is n w asked rows =
 
 -- the figures of a queue
 pub queue-is : (n : ℕ) (w : Wanted) (asked : QueueAsked) (rows : List Row) → queue_numbers w (queue_state n w asked rows) ≡ queue_figures n w asked rows
-unfolding peaks_by
+unfolding peaks_by bounds_by
 queue-is n w asked rows =
     let s = w.stretch in
     let q = queue_state n w asked rows in
     let sizes : List Figure → List Figure = λ left. peaks_by s q ++ (left ++ named_tries (tries_of (tries (rows_within s rows)))) in
-    let whole : List Figure → List Figure → List Figure = λ left by_age. named_counts q.counts ++ (named_requests q.polls.asked q.counts ++ (sizes left ++ by_age)) in
+    let whole : List Figure → List Figure → List Figure = λ left by_age. named_counts q.counts ++ (named_requests q.polls.asked q.counts ++ (sizes left ++ (by_age ++ queue_bounds n w rows))) in
     ap (λ (left : List Figure). whole left (queue_ages w q)) (left-is n w asked rows) ∙ ap (whole (named_left asked w rows)) (ages-are n w asked rows)
 
 -- the figures of an actor

@@ -17,7 +17,7 @@ use Rattle.sim_report.specs.declared.polls.Polls.{Polls}
 use Rattle.sim_report.specs.declared.tries.Tries.{Tries}
 use Rattle.sim_report.specs.declared.windows.Worst.{Worst}
 use Rattle.sim_report.specs.Facts.{fact_of, place_in}
-use Rattle.sim_report.specs.Figures.{Figure, FiguresAsked, age_by, age_names, age_of_oldest, batches, begins_backlog, comes_in, count_names, counts_of, ends_backlog, figure_fields, flying, flying_with, given_by, held_after, held_with, higher, in_flight, is_asked, is_first, is_full, is_given, is_serving, last_given, last_moment, moved_by, moved_here, named_counts, named_oldest, named_peak, named_requests, named_services, named_tries, no_windows, oldest_before, overlap, peak_of, rank_in, receives_asked, rows_by, rows_of_moved, rows_of_new, rows_until, rows_where, rows_within, start_of, there, there_with, tries, tries_of, waiting, waiting_with, window_of, windows, windows_with, worst_of}
+use Rattle.sim_report.specs.Figures.{Figure, FiguresAsked, age_by, age_names, age_of_oldest, ages_at, apart, batches, begins_backlog, bound_names, bound_numbers, comes_in, count_names, counts_of, ends_backlog, figure_fields, flying, flying_with, given_by, held_after, held_with, higher, in_flight, is_asked, is_first, is_full, is_given, is_serving, last_given, last_moment, moved_by, moved_here, named_counts, named_oldest, named_peak, named_requests, named_services, named_tries, no_windows, oldest_before, overlap, peak_of, rank_in, receives_asked, rows_by, rows_of_moved, rows_of_new, rows_until, rows_where, rows_within, start_of, there, there_with, tries, tries_of, waiting, waiting_with, window_of, windows, windows_with, worst_of}
 use Rattle.sim_report.specs.Running.{changed}
 use Rattle.sim_report.specs.Tally.{counted}
 
@@ -322,6 +322,17 @@ queue_ages w q =
     ages_named (codes "age") w q.ages
     ++ (ages_named (codes "new_age") w q.new_ages ++ ages_named (codes "moved_age") w q.moved_ages)
 
+-- the bounds of ages, with the messages that are left
+abbrev pub bounds_named : List ℕ → Wanted → List (ℕ × ℕ) → Aged → List Figure
+bounds_named name w ms a =
+    zip (bound_names name) (bound_numbers w a.ages a.windows (ascending (ages_at (w.stretch.until - 1) ms)))
+
+unfoldable pub bounds_by : Wanted → QueueState → List Figure
+bounds_by w q =
+    bounds_named (codes "age") w q.there q.ages
+    ++ (bounds_named (codes "new_age") w (apart false q.moved q.there) q.new_ages
+    ++ bounds_named (codes "moved_age") w (apart true q.moved q.there) q.moved_ages)
+
 -- those that are neither counts nor ages
 abbrev pub queue_sizes : Wanted → QueueState → List Figure
 queue_sizes w q = peaks_by w.stretch q ++ (left_by w q ++ named_tries q.tries)
@@ -329,7 +340,8 @@ queue_sizes w q = peaks_by w.stretch q ++ (left_by w q ++ named_tries q.tries)
 -- the figures of a queue
 abbrev pub queue_numbers : Wanted → QueueState → List Figure
 queue_numbers w q =
-    named_counts q.counts ++ (named_requests q.polls.asked q.counts ++ (queue_sizes w q ++ queue_ages w q))
+    named_counts q.counts
+    ++ (named_requests q.polls.asked q.counts ++ (queue_sizes w q ++ (queue_ages w q ++ bounds_by w q)))
 
 -- the running figures of an actor
 pub record ActorState : Type 0 where

@@ -1,5 +1,5 @@
 -- Figures: what a stretch of a run says of a queue or an actor, over the rows of its log.
-use Rattle.std.specs.Prelude.{ℕ, ◌+◌, ◌-◌, ◌*◌, ◌/◌, ◌==◌, nat_le, nat_lt, not, ◌&&◌, ◌||◌, Bool, true, false, codes, cond, max, List, [], ◌∷◌, ◌++◌, filter, filter_map, flat_map, fold, get_or, length, map, option_map, slice_get, sum, zip, Option, Some, None}
+use Rattle.std.specs.Prelude.{ℕ, ◌+◌, ◌-◌, ◌*◌, ◌/◌, ◌==◌, nat_le, nat_lt, not, ◌&&◌, ◌||◌, Bool, true, false, codes, cond, max, List, [], ◌∷◌, ◌++◌, filter, filter_map, flat_map, fold, get_or, is_some, length, map, option_map, slice_get, sum, zip, Option, Some, None}
 use Rattle.std.specs.BTreeMap.{insert_entry, is_at}
 use Rattle.std.specs.BTreeSet.{insert_key}
 use Rattle.std.specs.Map.{remove_entry}
@@ -19,7 +19,7 @@ use Rattle.sqs_message.specs.declared.row.RowReceipt.{RowReceipt}
 use Rattle.sqs_message.specs.declared.row.RowReceipt.TheVariants as receipts
 use Rattle.sqs_message.specs.declared.row.Detail.{Detail}
 use Rattle.sqs_message.specs.declared.row.Detail.TheVariants as details
-use Rattle.sqs_formats.specs.Report.{age_when, ages, column, counts_in, depth, greatest, is_column, numbers, put, rank, rows_of}
+use Rattle.sqs_formats.specs.Report.{age_when, ages, ascending, column, counts_in, depth, greatest, is_column, numbers, put, rank, rows_of}
 use Rattle.sqs_formats.specs.Rows.{lines, text_if}
 use Rattle.sim_report.specs.declared.stretch.Stretch.{Stretch}
 use Rattle.sim_report.specs.declared.asked.QueueAsked.{QueueAsked}
@@ -424,6 +424,42 @@ windows_by w x row = windows_with (window_of w row.key.at) (age_when (counts_in 
 abbrev pub windows : Wanted → List Row → Windows
 windows w rows = fold (windows_by w) no_windows rows
 
+-- how long each of these messages has been there at a moment
+abbrev pub ages_at : ℕ → List (ℕ × ℕ) → List ℕ
+ages_at at ms = map (λ m. at - m.1) ms
+
+-- those of these messages that are among these numbers, or those that are not
+abbrev pub apart : Bool → List ℕ → List (ℕ × ℕ) → List (ℕ × ℕ)
+apart among ns ms = filter (λ m. cond (list_any (λ n. n == m.0) ns) among (not among)) ms
+
+-- the nearest rank of numbers in ascending order, and of so many more that are above all of them, if it is one of them
+abbrev pub rank_below : ℕ → ℕ → List ℕ → Option ℕ
+rank_below percent more sorted = slice_get sorted ((percent * (length sorted + more) + 99) / 100 - 1)
+
+-- the worst window of those before one with this number, and the ages in this one
+abbrev pub worst_before : ℕ → Windows → Option Worst
+worst_before n w = cond (w.number == n) w.worst (worst_of w)
+
+abbrev pub ages_in : ℕ → Windows → List ℕ
+ages_in n w = cond (w.number == n) w.ages []
+
+-- the age of the worst window, if the last one, with this number, has this age
+abbrev pub worst_with : ℕ → Windows → Option ℕ → Option ℕ
+worst_with n w age = option_map (λ (x : Worst). x.age) (worse (worst_before n w) n age)
+
+-- the least and the greatest that percentiles of ages can be, in ascending order, where messages that are left, with
+-- these ages, may end at any moment from now on: as if each ended now, and as if none ever did, if that has a percentile
+abbrev pub bounds_at : ℕ → List ℕ → List ℕ → List (Option ℕ)
+bounds_at percent ended left =
+    rank_in percent (ascending (ended ++ left)) ∷ rank_below percent (length left) ended ∷ []
+
+-- the same of the worst window, in the last one of which they are left
+abbrev pub window_bounds : ℕ → Windows → List ℕ → List (Option ℕ)
+window_bounds n w left =
+    let most = rank_below 95 (length left) (ages_in n w) in
+    worst_with n w (rank_in 95 (ascending (ages_in n w ++ left)))
+    ∷ cond (is_some most || length left == 0) (worst_with n w most) None ∷ []
+
 -- a figure: its name and its number, if there is one
 abbrev pub Figure : Type 0
 Figure = List ℕ × Option ℕ
@@ -479,6 +515,24 @@ named_ages name w rows =
     zip (age_names name) (Some (sum all) ∷ rank 50 all ∷ rank 95 all ∷ rank 99 all ∷ rank 100 all
     ∷ option_map (λ (x : Worst). x.age) worst ∷ option_map (λ (x : Worst). start_of w x.number) worst ∷ [])
 
+-- the names of the bounds of ages
+abbrev pub bound_names : List ℕ → List (List ℕ)
+bound_names name =
+    flat_map (λ what. (name ++ what ++ codes "_least_ms") ∷ (name ++ what ++ codes "_most_ms") ∷ [])
+    (codes "_p50" ∷ codes "_p95" ∷ codes "_p99" ∷ codes "_greatest" ∷ codes "_window_p95" ∷ [])
+
+-- the bounds of ages and of their windows, with the ages of the messages that are left at the last moment of a stretch
+abbrev pub bound_numbers : Wanted → List ℕ → Windows → List ℕ → List (Option ℕ)
+bound_numbers w ended x left =
+    bounds_at 50 ended left ++ (bounds_at 95 ended left ++ (bounds_at 99 ended left ++ (bounds_at 100 ended left
+    ++ window_bounds (window_of w (w.stretch.until - 1)) x left)))
+
+-- the bounds of the ages in these rows by these names, with the messages that are left
+abbrev pub named_bounds : List ℕ → Wanted → List Row → List (ℕ × ℕ) → List Figure
+named_bounds name w rows ms =
+    zip (bound_names name)
+    (bound_numbers w (ascending (ages rows)) (windows w rows) (ascending (ages_at (w.stretch.until - 1) ms)))
+
 -- what is left of a queue's messages, how long as many were in flight as may be, and its last backlog
 abbrev pub named_left : QueueAsked → Wanted → List Row → List Figure
 named_left q w rows =
@@ -486,6 +540,15 @@ named_left q w rows =
     ∷ (codes "quota_ms", Some (time_while (is_full q.quota) w.stretch rows))
     ∷ (codes "backlog_gone_at_ms", backlog_gone w.backlog w.stretch rows)
     ∷ (codes "backlog_since_ms", backlog_since w.backlog rows) ∷ []
+
+-- the bounds of the ages of a queue's messages, of the new ones and of the moved ones
+abbrev pub queue_bounds : ℕ → Wanted → List Row → List Figure
+queue_bounds queues w rows =
+    let s = w.stretch in
+    let moved = moved_here queues rows in
+    named_bounds (codes "age") w (rows_within s rows) (there rows)
+    ++ (named_bounds (codes "new_age") w (rows_within s (rows_of_new queues rows)) (apart false moved (there rows))
+    ++ named_bounds (codes "moved_age") w (rows_within s (rows_of_moved queues rows)) (apart true moved (there rows)))
 
 -- the figures of a queue over its rows, where so many queues are the first agents
 abbrev pub queue_figures : ℕ → Wanted → QueueAsked → List Row → List Figure
@@ -497,7 +560,8 @@ queue_figures queues w q rows =
     ++ (named_oldest (oldest s rows) ++ (named_left q w rows ++ (named_tries (tries_of (tries (rows_within s rows)))
     ++ (named_ages (codes "age") w (rows_within s rows)
     ++ (named_ages (codes "new_age") w (rows_within s (rows_of_new queues rows))
-    ++ named_ages (codes "moved_age") w (rows_within s (rows_of_moved queues rows))))))))))
+    ++ (named_ages (codes "moved_age") w (rows_within s (rows_of_moved queues rows))
+    ++ queue_bounds queues w rows)))))))))
 
 -- a time in thousandths of a stretch, rounded down
 abbrev pub permille : Stretch → ℕ → Option ℕ

@@ -4,7 +4,7 @@ ghost use Rattle.std.specs.List.{prefix_len};
 ghost use Rattle.std.specs.List.Sorted.{IsNonDecreasing};
 ghost use Rattle.sqs_formats.specs.Report.{ascending};
 ghost use Rattle.sim_report.specs.Ages.{EachOnce, ages_of, expanded};
-ghost use Rattle.sim_report.specs.Figures.{rank_in};
+ghost use Rattle.sim_report.specs.Figures.{rank_below, rank_in};
 
 use std::alloc::{AllocError, Global};
 use std::marker::Model;
@@ -113,6 +113,16 @@ impl AgeCounts {
         ensures { result ≡ rank_in percent self.now }
     {
         let place = (u128::from(percent) * u128::from(self.number)).div_ceil(100);
+        age_at(self.counts.as_slice(), place.saturating_sub(1))
+    }
+
+    /// The same of these ages and of so many more that are above all of them, if it is one of these.
+    pub(crate) fn rank_below(&self, percent: u64, more: usize) -> Option<u128>
+        requires { percent ≤ 100 }
+        ensures { result ≡ rank_below percent more self.now }
+    {
+        let all = u128::from(self.number) + more as u128;
+        let place = (u128::from(percent) * all).div_ceil(100);
         age_at(self.counts.as_slice(), place.saturating_sub(1))
     }
 

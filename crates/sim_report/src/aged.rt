@@ -1,6 +1,8 @@
 //! Ages of deletions, of all and by windows of time.
 ghost use Rattle.std.specs.Prelude.{◌≡◌, map, zip, IfOk, OnOk};
+ghost use Rattle.std.specs.List.Sorted.{IsNonDecreasing};
 ghost use Rattle.sim_report.specs.Figured.{age_numbers, aged_with, no_aged};
+ghost use Rattle.sim_report.specs.Figures.{bound_numbers};
 
 use crate::ages::Ages;
 use crate::asked::Wanted;
@@ -10,6 +12,9 @@ use std::alloc::{AllocError, Global};
 
 /// The number of figures of ages.
 pub(crate) const AGES: usize = 7;
+
+/// The number of bounds of ages.
+pub(crate) const BOUNDS: usize = 10;
 
 /// Ages at which messages were deleted, of all and by windows of time.
 #[derive(Drop)]
@@ -39,6 +44,52 @@ impl Aged {
     {
         self.ages.add(age)?;
         self.windows.add(window, age)
+    }
+
+    /// The bounds of the ages, by these names, where messages that are left have these ages, in
+    /// ascending order, at the last moment of the stretch.
+    ///
+    /// # Errors
+    ///
+    /// `AllocError` if a growth is refused.
+    pub(crate) fn bounds(
+        &self,
+        alloc: Global,
+        wanted: Wanted,
+        left: &[u64],
+        names: [&'static [u8]; BOUNDS],
+    ) -> Result<[Figure; BOUNDS], AllocError>
+        requires { IsNonDecreasing left.now }
+        ensures { IfOk result (λ figures. figures
+            ≡ zip (map (λ n. n.now) names.entry) (bound_numbers wanted self.now.ages self.now.windows left.now)) }
+    {
+        let ended = self.ages.counted(alloc)?;
+        let all = ended.merged(alloc, left)?;
+        let more = left.len();
+        let last = wanted.window_of(wanted.stretch.last());
+        let [least, most] = self.windows.bounds(alloc, last, left)?;
+        let [
+            p50_least,
+            p50_most,
+            p95_least,
+            p95_most,
+            p99_least,
+            p99_most,
+            ..
+        ] = names;
+        let [.., greatest_least, greatest_most, window_least, window_most] = names;
+        Ok([
+            Figure::of(p50_least, all.nearest_rank(50)),
+            Figure::of(p50_most, ended.rank_below(50, more)),
+            Figure::of(p95_least, all.nearest_rank(95)),
+            Figure::of(p95_most, ended.rank_below(95, more)),
+            Figure::of(p99_least, all.nearest_rank(99)),
+            Figure::of(p99_most, ended.rank_below(99, more)),
+            Figure::of(greatest_least, all.nearest_rank(100)),
+            Figure::of(greatest_most, ended.rank_below(100, more)),
+            Figure::of(window_least, least),
+            Figure::of(window_most, most),
+        ])
     }
 
     /// The figures of the ages, by these names.

@@ -1,5 +1,6 @@
 //! The ages at which messages were deleted.
 ghost use Rattle.std.specs.Prelude.{◌≡◌, ◌≤◌, IfOk, OnOk};
+ghost use Rattle.std.specs.List.Sorted.{IsNonDecreasing};
 ghost use Rattle.sqs_formats.specs.Report.{ascending, put};
 ghost use Rattle.sim_report.specs.Figures.{rank_in};
 
@@ -27,9 +28,14 @@ impl Model for Ages {
     ghost view = { λ a. ascending (a.counted ++ a.recent.items) };
 }
 
-// The ages in ascending order.
-fn sorted(alloc: Global, ages: &[u64]) -> Result<Vec<u64>, AllocError>
-    ensures { IfOk result (λ v. v.items ≡ ascending ages.now) }
+/// The ages in ascending order.
+///
+/// # Errors
+///
+/// `AllocError` if a growth is refused.
+pub(crate) fn sorted(alloc: Global, ages: &[u64]) -> Result<Vec<u64>, AllocError>
+    ensures same { IfOk result (λ v. v.items ≡ ascending ages.now) }
+    ensures ascends { IfOk result (λ v. IsNonDecreasing v.items) }
 {
     let mut sorted = ages.to_vec(alloc)?;
     sorted.sort_unstable();

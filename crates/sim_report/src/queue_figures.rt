@@ -1,10 +1,10 @@
 //! The running figures of a queue.
 ghost use Rattle.std.specs.Prelude.{◌≡◌, ◌++◌, map, OnOk};
-ghost use Rattle.sim_report.specs.Figured.{fresh_queue, is_backlog_by, is_full_by, left_by, oldest_by, peaks_by, queue_ages, queue_changing, queue_counted, queue_counting, queue_numbers, queue_peaking, queue_sizes, queue_with};
+ghost use Rattle.sim_report.specs.Figured.{bounds_by, fresh_queue, is_backlog_by, is_full_by, left_by, oldest_by, peaks_by, queue_ages, queue_changing, queue_counted, queue_counting, queue_numbers, queue_peaking, queue_sizes, queue_with};
 ghost use Rattle.sim_report.specs.Figures.{age_by, figure_fields, named_tries};
 ghost use Rattle.sqs_formats.specs.Rows.{lines};
 
-use crate::aged::{AGES, Aged};
+use crate::aged::{AGES, Aged, BOUNDS};
 use crate::asked::{QueueAsked, Wanted};
 use crate::backlogs::{Backlogs, NO_BACKLOGS};
 use crate::column::comes_in;
@@ -60,6 +60,46 @@ const MOVED_AGE_NAMES: [&[u8]; AGES] = [
     b"moved_age_greatest_ms",
     b"moved_age_window_p95_ms",
     b"moved_age_window_p95_at_ms",
+];
+
+// The names of the bounds of these ages.
+const AGE_BOUNDS: [&[u8]; BOUNDS] = [
+    b"age_p50_least_ms",
+    b"age_p50_most_ms",
+    b"age_p95_least_ms",
+    b"age_p95_most_ms",
+    b"age_p99_least_ms",
+    b"age_p99_most_ms",
+    b"age_greatest_least_ms",
+    b"age_greatest_most_ms",
+    b"age_window_p95_least_ms",
+    b"age_window_p95_most_ms",
+];
+
+const NEW_AGE_BOUNDS: [&[u8]; BOUNDS] = [
+    b"new_age_p50_least_ms",
+    b"new_age_p50_most_ms",
+    b"new_age_p95_least_ms",
+    b"new_age_p95_most_ms",
+    b"new_age_p99_least_ms",
+    b"new_age_p99_most_ms",
+    b"new_age_greatest_least_ms",
+    b"new_age_greatest_most_ms",
+    b"new_age_window_p95_least_ms",
+    b"new_age_window_p95_most_ms",
+];
+
+const MOVED_AGE_BOUNDS: [&[u8]; BOUNDS] = [
+    b"moved_age_p50_least_ms",
+    b"moved_age_p50_most_ms",
+    b"moved_age_p95_least_ms",
+    b"moved_age_p95_most_ms",
+    b"moved_age_p99_least_ms",
+    b"moved_age_p99_most_ms",
+    b"moved_age_greatest_least_ms",
+    b"moved_age_greatest_most_ms",
+    b"moved_age_window_p95_least_ms",
+    b"moved_age_window_p95_most_ms",
 ];
 
 /// The running figures of a queue: what they need of the rows so far, without the rows.
@@ -316,6 +356,35 @@ impl QueueFigures {
         add_figures(text, of, &moved)
     }
 
+    // Adds the lines of the bounds of its ages, with the messages that are left.
+    fn write_bounds(
+        &self,
+        alloc: Global,
+        wanted: Wanted,
+        text: &mut Lines,
+    ) -> Result<(), AllocError>
+        ensures { OnOk result (text.new ≡ text.old
+            ++ lines (map (figure_fields self.now.asked.name) (bounds_by wanted self.now))) }
+    {
+        let of = self.asked.name.as_bytes();
+        let at = wanted.stretch.last();
+        let left = self.there.ages(alloc, at)?;
+        let all = self
+            .ages
+            .bounds(alloc, wanted, left.as_slice(), AGE_BOUNDS)?;
+        let left = self.there.ages_apart(alloc, at, &self.moved, false)?;
+        let new = self
+            .new_ages
+            .bounds(alloc, wanted, left.as_slice(), NEW_AGE_BOUNDS)?;
+        let left = self.there.ages_apart(alloc, at, &self.moved, true)?;
+        let moved = self
+            .moved_ages
+            .bounds(alloc, wanted, left.as_slice(), MOVED_AGE_BOUNDS)?;
+        add_figures(text, of, &all)?;
+        add_figures(text, of, &new)?;
+        add_figures(text, of, &moved)
+    }
+
     // Adds the lines of its figures that are neither counts nor ages.
     fn write_sizes(&self, wanted: Wanted, text: &mut Lines) -> Result<(), AllocError>
         ensures { OnOk result (text.new ≡ text.old
@@ -346,6 +415,7 @@ impl QueueFigures {
         add_figures(text, of, counts.as_slice())?;
         add_figures(text, of, &named_requests(self.polls.asked, &self.counts))?;
         self.write_sizes(wanted, text)?;
-        self.write_ages(alloc, wanted, text)
+        self.write_ages(alloc, wanted, text)?;
+        self.write_bounds(alloc, wanted, text)
     }
 }

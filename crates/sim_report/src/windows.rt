@@ -1,7 +1,9 @@
 //! Ages in windows of time.
 ghost use Rattle.std.specs.Prelude.{◌≡◌, IfOk, OnOk, Some};
-ghost use Rattle.sim_report.specs.Figures.{no_windows, windows_with, worse, worst_of};
+ghost use Rattle.std.specs.List.Sorted.{IsNonDecreasing};
+ghost use Rattle.sim_report.specs.Figures.{ages_in, no_windows, window_bounds, windows_with, worse, worst_before, worst_of};
 
+use crate::age_counts::AgeCounts;
 use crate::ages::Ages;
 use std::alloc::{AllocError, Global};
 
@@ -55,6 +57,45 @@ impl Windows {
     {
         let age = self.ages.nearest_rank(95)?;
         Ok(worse(self.worst, self.number, age))
+    }
+
+    // The worst window of those before the one with this number, and the ages in this one.
+    fn parted(&self, alloc: Global, number: u64) -> Result<(Option<Worst>, AgeCounts), AllocError>
+        ensures { IfOk result (λ p. (p.0 ≡ worst_before number self.now)
+            × (p.1 ≡ ages_in number self.now)) }
+    {
+        if self.number == number {
+            Ok((self.worst, self.ages.counted(alloc)?))
+        } else {
+            Ok((self.worst()?, AgeCounts::new(alloc)))
+        }
+    }
+
+    /// The least and the greatest that the age of the worst window can be, if messages that are
+    /// left end in the window with this number. Their ages are in ascending order.
+    ///
+    /// # Errors
+    ///
+    /// `AllocError` if a growth is refused.
+    pub(crate) fn bounds(
+        &self,
+        alloc: Global,
+        number: u64,
+        left: &[u64],
+    ) -> Result<[Option<u128>; 2], AllocError>
+        requires { IsNonDecreasing left.now }
+        ensures { IfOk result (λ bounds. bounds ≡ window_bounds number self.now left.now) }
+    {
+        let (before, ages) = self.parted(alloc, number)?;
+        let all = ages.merged(alloc, left)?;
+        let least = worse(before, number, all.nearest_rank(95)).map(|worst| worst.age);
+        let rank = ages.rank_below(95, left.len());
+        let most = if rank.is_some() || left.is_empty() {
+            worse(before, number, rank).map(|worst| worst.age)
+        } else {
+            None
+        };
+        Ok([least, most])
     }
 
     /// Adds an age in the window with this number.

@@ -1,29 +1,33 @@
-"""Tests the columns of a sweep that no report has: by a log written by hand, by random scenarios against the report and
-the summary, and by the program."""
+"""Tests the columns of a sweep that no report has, which are figures: by a log written by hand, by random scenarios
+against the report and the summary, and by the program."""
 from __future__ import annotations
 
+import csv
 import io
 import json
 import math
 import subprocess
 import unittest
+from typing import Any
 
 from test_runs import OVERLOADED, random_scenario
 from tool import LOG_HEADER, PROGRAM, ToolCase, ended, needs_program
-from rehearse_tools.further import COLUMNS as FURTHER
+from rehearse_tools.figures import COLUMNS as OF_FIGURES
+from rehearse_tools.figures import Figures
 from rehearse_tools.requirements import Requirement
-from rehearse_tools.runs import ALL_COLUMNS, COLUMNS, Ages, Counting, Extra, reported
+from rehearse_tools.runs import ALL_COLUMNS, COLUMNS, Ages, run
 from rehearse_tools.statistics import Interval
 from rehearse_tools.summaries import ACTIONS, Reading, read_runs
 
 # m-0-0 is dead-lettered to d and moved back as m-0-2, and is 2 s old there when it is deleted; m-0-1 is new, and 2.5 s
 # old. m-0-3 is left, 11 s old.
-ROWS = """100,a,shop,send,new,m-0-0,,x
+MD5 = "9dd4e461268c8034f5c8564e155c67a6"
+ROWS = f"""100,a,shop,send,new,m-0-0,,{MD5}
 200,a,w,receive,ok,m-0-0,r-0-0-1,o-0-0
 300,a,w,fail,ok,m-0-0,r-0-0-1,
 1200,a,a,redrive,out,m-0-0,,d
 1220,d,a,arrive,new,m-1-0,,o-0-0
-2500,a,shop,send,new,m-0-1,,x
+2500,a,shop,send,new,m-0-1,,{MD5}
 3000,d,back,move,out,m-1-0,,a
 3020,a,back,arrive,new,m-0-2,,o-0-0
 4000,a,w,receive,ok,m-0-1,r-0-1-1,o-0-1
@@ -31,35 +35,59 @@ ROWS = """100,a,shop,send,new,m-0-0,,x
 5001,a,w,receive,ok,m-0-2,r-0-2-1,o-0-0
 5020,a,w,delete,deleted,m-0-2,r-0-2-1,2000
 6000,a,w,receive,empty,,,
-9000,a,shop,send,new,m-0-3,,x
+9000,a,shop,send,new,m-0-3,,{MD5}
 """
 HEADER = LOG_HEADER.decode()
 TEXT = ended(HEADER + ROWS, "final,a,m-0-3,o-0-3,visible,,9000,0,,x\n")
 
 
-def found_in(text: str, counting: Counting) -> tuple[dict[str, dict[str, str]], dict[str, Ages]]:
-    """By queue the further columns that are counted in what a run prints, and the ages."""
-    records, ages = reported(io.StringIO(text), counting)
-    assert all(len(record) == 1 + len(ALL_COLUMNS) for record in records)
-    return {name: dict(zip(ALL_COLUMNS, numbers)) for name, *numbers in records}, ages
+# The scenario of this log, as far as a log is read by it.
+SCENARIO = "version = 1\nhorizon = 20000\n" + "".join(f"[[queue]]\nname = {json.dumps(name)}\n" for name in "ad") + """
+[[actor]]
+name = "shop"
+kind = "script"
+queue = "a"
+calls = '''
+at,call,body,group,id,delay,receipt,max,wait,timeout,task
+1,send,x,,,,,,,,
+'''
+[[actor]]
+name = "w"
+kind = "consumer"
+queue = "a"
+service_min_ms = 1
+service_max_ms = 1
+[[task]]
+name = "back"
+queue = "d"
+to = "a"
+latency_ms = 1
+"""
 
 
+@needs_program
 class ByHand(ToolCase):
-    def found(self, first: int = 0, **extra: object) -> tuple[dict[str, dict[str, str]], dict[str, Ages]]:
-        return found_in(TEXT, Counting(first, 20_000, Extra(with_further=True, **extra)))
+    def found(self, first: int = 0, text: str = TEXT, **wanted: Any) -> tuple[dict[str, dict[str, str]], dict[str, Any]]:
+        """By queue the columns of the figures of a log, and their bounds."""
+        figures, scenario = Figures(first, 20_000, {}, **wanted), self.write("s.toml", SCENARIO)
+        words = [PROGRAM, "figures", *figures.words()[1:], scenario, self.write("run.csv", text)]
+        ran = subprocess.run(words, capture_output=True, text=True)
+        self.assertEqual((ran.returncode, ran.stderr), (0, ""))
+        found = figures.found_in(csv.reader(io.StringIO(ran.stdout)), ["a", "d"]) or {}
+        return ({name: dict(zip(OF_FIGURES, texts)) for name, (texts, _) in found.items()},
+                {name: bounds for name, (_, bounds) in found.items()})
 
     def test_new_and_moved_messages(self) -> None:
-        found, ages = self.found()
-        self.assertEqual({column: found["a"][column] for column in FURTHER}, {
+        found, bounds = self.found()
+        self.assertEqual({column: found["a"][column] for column in OF_FIGURES[:10]}, {
             "requests": "9", "cost": "", "backlog_gone": "0", "new_age_p50": "2500", "new_age_p95": "2500",
             "new_age_max": "2500", "moved_age_p50": "2000", "moved_age_p95": "2000", "moved_age_max": "2000",
             "window_age_p95": "2500"})
-        self.assertEqual(found["a"]["door_age_p50"], "")
-        self.assertEqual({found["d"][column] for column in FURTHER[3:]}, {""})
+        self.assertEqual({found["d"][column] for column in OF_FIGURES[3:10]}, {""})
         # one new message is left, 11 s old, and no moved one
-        self.assertEqual(ages["a"].bounds["new_age_p50"], Interval(2_500, 2_500))
-        self.assertEqual(ages["a"].bounds["new_age_p95"], Interval(11_000, math.inf))
-        self.assertEqual(ages["a"].bounds["moved_age_max"], Interval(2_000, 2_000))
+        self.assertEqual(bounds["a"]["new_age_p50"], Interval(2_500, 2_500))
+        self.assertEqual(bounds["a"]["new_age_p95"], Interval(11_000, math.inf))
+        self.assertEqual(bounds["a"]["moved_age_max"], Interval(2_000, 2_000))
 
     def test_a_summary(self) -> None:
         """It has the ages apart if a move task brought messages that were deleted, and counts them anew with --from."""
@@ -82,24 +110,23 @@ class ByHand(ToolCase):
 
     def test_windows(self) -> None:
         """By windows of 10 ms each deletion has one of its own; what is left counts in that of the end."""
-        for window, bounds in ((10, Interval(11_000, math.inf)), (5_010, Interval(11_000, math.inf)),
-                               (100_000, Interval(11_000, math.inf))):
-            found, ages = self.found(window=window)
-            self.assertEqual((found["a"]["window_age_p95"], ages["a"].bounds["window_age_p95"]), ("2500", bounds))
+        for window in (10, 5_010, 100_000):
+            found, bounds = self.found(window=window)
+            self.assertEqual((found["a"]["window_age_p95"], bounds["a"]["window_age_p95"]),
+                             ("2500", Interval(11_000, math.inf)))
         self.assertEqual(self.found(first=5_010, window=10)[0]["a"]["window_age_p95"], "2000")
 
     def test_backlogs(self) -> None:
         """Eleven that wait are a backlog, which ends with the first that is received; at the end it is not gone."""
-        sends = "".join(f"{at},a,shop,send,new,m-0-{at},,x\n" for at in range(11))
+        sends = "".join(f"{at},a,shop,send,new,m-0-{at},,{MD5}\n" for at in range(11))
         for rows, gone in ((sends, ""), (sends + "70,a,w,receive,ok,m-0-0,r-0-0-1,o-0-0\n", "70")):
-            found, _ = found_in(ended(HEADER + rows), Counting(0, 100, Extra(with_further=True)))
-            self.assertEqual(found["a"]["backlog_gone"], gone)
+            self.assertEqual(self.found(text=HEADER + rows)[0]["a"]["backlog_gone"], gone)
 
 
 class Requirements(unittest.TestCase):
     def word(self, text: str, bounds: dict[str, Interval], left: int = 1, **columns: str) -> str | None:
         numbers = {**dict.fromkeys(ALL_COLUMNS, ""), **dict.fromkeys(COLUMNS, "0"), "visible": str(left), **columns}
-        failure = Requirement(text).failure(list(numbers.values()), Ages({}, [], bounds=bounds))
+        failure = Requirement(text).failure(list(numbers.values()), Ages(bounds=bounds))
         return failure and failure.word
 
     def test_messages_that_are_left(self) -> None:
@@ -126,11 +153,11 @@ class Random(ToolCase):
         moved = backlogs = 0
         for seed in range(40):
             text = random_scenario(seed)
-            run = subprocess.run([str(PROGRAM), "run", "--quiet"], input=text, capture_output=True, text=True)
-            found, _ = found_in(run.stdout, Counting(0, 90_000, Extra(True, True, 100_000)))
-            summary, = read_runs([self.write("run.out", run.stdout)], Reading())
-            for name, numbers in found.items():
-                values = summary.queues[name].values()
+            ran = run([str(PROGRAM), "run"], text, None, figures=Figures(0, 90_000, {}, 100_000))
+            log = subprocess.run([str(PROGRAM), "run", "--quiet"], input=text, capture_output=True, text=True).stdout
+            summary, = read_runs([self.write("run.out", log)], Reading())
+            for name, *texts in ran.records or []:
+                numbers, values = dict(zip(ALL_COLUMNS, texts)), summary.queues[name].values()
                 with self.subTest(seed=seed, queue=name):
                     self.assertEqual(numbers["window_age_p95"], numbers["age_p95"])
                     greatest = [int(numbers[column]) for column in ("new_age_max", "moved_age_max") if numbers[column]]
