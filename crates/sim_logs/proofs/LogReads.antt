@@ -1,17 +1,23 @@
 -- How reading goes on from line to line.
-use Rattle.std.proofs.Common.{◌≡◌, ◌≤◌, ◌+◌, ℕ, List, [], ◌∷◌, ◌++◌, All, Option, Some, None, IfSome, length, map, refl, sym, ap, subst, ◌∙◌, arith, inl, inr}
+use Rattle.std.proofs.Common.{◌≡◌, ◌≢◌, ◌<◌, ◌≤◌, ◌+◌, ℕ, List, [], ◌∷◌, ◌++◌, All, Option, length, map, refl, sym, ap, subst, ◌∙◌, arith, inl, inr}
 use Rattle.std.specs.Prelude.{flat_map}
 use Rattle.std.specs.Io.KnownBytes.{Consumes, IsAtEnd}
+use Rattle.std.proofs.KnownBytes.{Consumes-all, Consumes-trans}
 use Rattle.std.proofs.lemmas.List.{append-nil, append_assoc, length-append, map-append}
 use Rattle.std.proofs.lemmas.List.Concat.{flat_map-append}
-use Rattle.std.proofs.lemmas.List.Elements.{All-append}
+use Rattle.std.proofs.lemmas.List.Elements.{All-nil, All-push}
 use Rattle.std.proofs.lemmas.List.Sums.{fold_push}
 use Rattle.sqs_message.specs.declared.row.Row.{Row}
 use Rattle.sqs_formats.specs.Finals.{message_header}
 use Rattle.sqs_formats.specs.Rows.{Names, line, lines, log_header, log_text, row_fields}
 use Rattle.sim_report.specs.Facts.{fact_of}
 use Rattle.sim_report.specs.Figured.{FiguresState, figures_after, figures_with, last_at}
-use Rattle.sim_logs.specs.Logs.{AreInTurn, IsEarlier, IsFault, IsNext, IsRead, IsReadUp, IsStopped, IsWritten, ReadingState}
+use Rattle.std.specs.declared.io.ErrorKind.{ErrorKind}
+use Rattle.std.specs.declared.io.ErrorKind.TheVariants as kinds
+use Rattle.sim_logs.specs.declared.fault.LogFault.{LogFault}
+use Rattle.sim_logs.specs.declared.fault.LogFault.TheVariants as faults
+use Rattle.sim_logs.specs.Faults.{IsHeaderFault, IsReadFault, fault_of}
+use Rattle.sim_logs.specs.Logs.{AreInTurn, IsEarlier, IsFault, IsFaultAt, IsNext, IsRead, IsRowOf, IsStopped, IsWritten, ReadingState}
 
 -- the lines before that with this number were read, and the reader has taken their rows
 pub record Reads (names : Names) (before : FiguresState) (old new : Option (List ℕ)) (number : ℕ) (r : ReadingState) : Type 0 where
@@ -23,13 +29,6 @@ pub record Reads (names : Names) (before : FiguresState) (old new : Option (List
   pub names_are : r.names ≡ names
   pub figures_are : r.figures ≡ figures_after rows before
   pub latest_is : r.latest ≡ last_at 0 rows
-
--- what is consumed in two steps
-consumes_more : (a b c : Option (List ℕ)) (xs ys : List ℕ) → Consumes a b xs → Consumes b c ys → Consumes a c (xs ++ ys)
-consumes_more None b c xs ys p q = tt
-consumes_more (Some x) None c xs ys p q = absurd p
-consumes_more (Some x) (Some y) None xs ys p q = absurd q
-consumes_more (Some x) (Some y) (Some z) xs ys p q = p ∙ ap (λ l. xs ++ l) q ∙ sym (append_assoc xs ys z)
 
 -- one more row in turn
 turns_push : (at : ℕ) (rows : List Row) (row : Row) → AreInTurn at rows → last_at at rows ≤ row.key.at → AreInTurn at (rows ++ row ∷ [])
@@ -51,7 +50,7 @@ reads_none names before old new r read is =
     record {
       rows = [];
       turns = tt;
-      written = tt;
+      written = All-nil (IsWritten names);
       log = subst (Consumes old new) (sym (append-nil (line log_header))) read;
       number_is = refl;
       names_are = ap (λ (s : ReadingState). s.names) is;
@@ -71,9 +70,9 @@ reads_more names before old mid new number r s text so_far read next =
     record {
       rows = rows ++ row ∷ [];
       turns = turns_push 0 rows row so_far.turns turn;
-      written = All-append (IsWritten names) rows (row ∷ []) so_far.written (written, tt);
+      written = All-push (IsWritten names) rows row so_far.written written;
       log = subst (Consumes old new) (ap (λ (t : List ℕ). log_text names rows ++ t) text_is ∙ sym (log_push names rows row))
-          (consumes_more old mid new (log_text names rows) text so_far.log read);
+          (Consumes-trans old mid new (log_text names rows) text so_far.log read);
       number_is = omega (arith, so_far.number_is, length-append rows (row ∷ []));
       names_are = next.names_are ∙ so_far.names_are;
       figures_are = next.figures_are ∙ ap (figures_with (fact_of row)) so_far.figures_are
@@ -82,11 +81,6 @@ reads_more names before old mid new number r s text so_far read next =
     }
 
 -- nothing is left
-at_end : (old new : Option (List ℕ)) (bytes : List ℕ) → Consumes old new bytes → IsAtEnd new → IfSome old (λ all. all ≡ bytes)
-at_end None new bytes read end = tt
-at_end (Some x) None bytes read end = absurd read
-at_end (Some x) (Some y) bytes read end = read ∙ ap (λ l. bytes ++ l) end ∙ append-nil bytes
-
 pub read_to_end : (names : Names) (before : FiguresState) (old mid new : Option (List ℕ)) (number : ℕ) (r : ReadingState)
     → Reads names before old mid number r → IsAtEnd mid → IsRead names before old new r.figures
 read_to_end names before old mid new number r so_far end =
@@ -94,7 +88,7 @@ read_to_end names before old mid new number r so_far end =
       rows = so_far.rows;
       turns = so_far.turns;
       written = so_far.written;
-      log = inl (at_end old mid (log_text names so_far.rows) so_far.log end);
+      log = inl (Consumes-all old mid (log_text names so_far.rows) [] (log_text names so_far.rows) so_far.log end refl);
       figures = so_far.figures_are;
     }
 
@@ -106,7 +100,7 @@ read_to_finals names before old mid new number r text so_far read is =
       rows = so_far.rows;
       turns = so_far.turns;
       written = so_far.written;
-      log = inr (consumes_more old mid new (log_text names so_far.rows) (line message_header) so_far.log (subst (Consumes mid new) is read));
+      log = inr (Consumes-trans old mid new (log_text names so_far.rows) (line message_header) so_far.log (subst (Consumes mid new) is read));
       figures = so_far.figures_are;
     }
 
@@ -120,7 +114,41 @@ stopped_at names before old mid new number n r text Why so_far read is why =
       turns = so_far.turns;
       written = so_far.written;
       text = text;
-      log = consumes_more old mid new (log_text names so_far.rows) text so_far.log read;
+      log = Consumes-trans old mid new (log_text names so_far.rows) text so_far.log read;
       number_is = is ∙ so_far.number_is;
       why = why;
     }
+
+-- the fault of a read that failed
+pub read_fault : (kind : ErrorKind) → IsReadFault (fault_of kind)
+read_fault kinds.OutOfMemory = tt
+read_fault kind = tt
+
+-- these faults are those of a whole log
+pub fault_of_header : (names : Names) (old new : Option (List ℕ)) (f : LogFault) → IsHeaderFault old f → IsFault names old new f
+fault_of_header names old new faults.NoHeader h = h
+fault_of_header names old new faults.Memory h = tt
+fault_of_header names old new faults.Unreadable h = tt
+fault_of_header names old new (faults.NoRow n) h = absurd h
+fault_of_header names old new (faults.Earlier n) h = absurd h
+
+pub fault_of_read : (names : Names) (old new : Option (List ℕ)) (f : LogFault) → IsReadFault f → IsFault names old new f
+fault_of_read names old new faults.NoHeader h = absurd h
+fault_of_read names old new faults.Memory h = tt
+fault_of_read names old new faults.Unreadable h = tt
+fault_of_read names old new (faults.NoRow n) h = absurd h
+fault_of_read names old new (faults.Earlier n) h = absurd h
+
+-- a line that is not taken
+pub fault_at : (names : Names) (before : FiguresState) (old mid new : Option (List ℕ)) (number : ℕ) (r : ReadingState) (text : List ℕ) (f : LogFault)
+    → Reads names before old mid number r → Consumes mid new text → text ≢ line message_header → IsFaultAt r text number f → IsFault names old new f
+fault_at names before old mid new number r text faults.NoHeader so_far read other h = absurd h
+fault_at names before old mid new number r text faults.Memory so_far read other h = tt
+fault_at names before old mid new number r text faults.Unreadable so_far read other h = tt
+fault_at names before old mid new number r text (faults.NoRow n) so_far read other h =
+    stopped_at names before old mid new number n r text (λ rows text. text ≢ line message_header) so_far read h other
+fault_at names before old mid new number r text (faults.Earlier n) so_far read other h =
+    let row = h.1.row in
+    let is_row : IsRowOf names text row = subst (λ (ns : Names). IsRowOf ns text row) so_far.names_are h.1.is_row in
+    let earlier : row.key.at < last_at 0 so_far.rows = subst (λ (at : ℕ). row.key.at < at) so_far.latest_is h.1.earlier in
+    stopped_at names before old mid new number n r text (λ rows text. IsEarlier names (last_at 0 rows) text) so_far read h.0 (record { row = row; is_row = is_row; earlier = earlier })

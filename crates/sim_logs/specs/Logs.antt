@@ -1,16 +1,15 @@
 -- What the reader makes of a log.
 use Rattle.std.specs.Prelude.{◌≡◌, ◌≢◌, ◌⊎◌, ◌<◌, ◌≤◌, ◌+◌, ℕ, ⊤, List, [], ◌∷◌, ◌++◌, All, Option, IfSome, length}
-use Rattle.std.specs.Io.BufRead.{take_through}
 use Rattle.std.specs.Io.KnownBytes.{Consumes}
-use Rattle.csv.specs.Machine.{line_feed}
 use Rattle.sqs_message.specs.declared.row.Row.{Row}
 use Rattle.sqs_message.specs.declared.row.Detail.{Detail}
 use Rattle.sqs_message.specs.declared.row.Detail.TheVariants as details
 use Rattle.sqs_formats.specs.Finals.{message_header}
-use Rattle.sqs_formats.specs.Rows.{Names, line, log_header, log_text, row_fields}
+use Rattle.sqs_formats.specs.Rows.{Names, line, log_text, row_fields}
 use Rattle.sim_report.specs.Facts.{fact_of}
 use Rattle.sim_report.specs.Figured.{FiguresState, figures_after, figures_with, last_at}
 use Rattle.sim_logs.specs.Columns.{HasItsColumns}
+use Rattle.sim_logs.specs.Faults.{IsHeaderFault, IsReadFault}
 use Rattle.sim_logs.specs.declared.fault.LogFault.{LogFault}
 use Rattle.sim_logs.specs.declared.fault.LogFault.TheVariants as faults
 
@@ -32,7 +31,7 @@ AreInTurn at (row ∷ rows) = (at ≤ row.key.at) × AreInTurn row.key.at rows
 
 -- these bytes are all that there is, or the header of the final queues stands behind them
 abbrev pub IsReadUp : Option (List ℕ) → Option (List ℕ) → List ℕ → Type 0
-IsReadUp old new bytes = IfSome old (λ all. all ≡ bytes) ⊎ Consumes old new (bytes ++ line message_header)
+IsReadUp old new bytes = IfSome old (λ all. bytes ≡ all) ⊎ Consumes old new (bytes ++ line message_header)
 
 -- a log of rows was read, and their figures are added to those before
 pub record IsRead (names : Names) (before : FiguresState) (old new : Option (List ℕ)) (after : FiguresState) : Type 0 where
@@ -58,16 +57,16 @@ pub record IsRowOf (names : Names) (text : List ℕ) (row : Row) : Type 0 where
   pub text_is : text ≡ line (row_fields names row)
 
 -- a line is a row of a moment before this one
-abbrev pub IsEarlier : Names → ℕ → List ℕ → Type 0
-IsEarlier names latest text = (row : Row) × IsRowOf names text row × row.key.at < latest
+pub record IsEarlier (names : Names) (latest : ℕ) (text : List ℕ) : Type 0 where
+  pub row : Row
+  pub is_row : IsRowOf names text row
+  pub earlier : row.key.at < latest
 
 -- when a log is refused. Of a line that is no row, only its place is said here
 abbrev pub IsFault : Names → Option (List ℕ) → Option (List ℕ) → LogFault → Type 0
-IsFault names old new faults.NoHeader = IfSome old (λ all. take_through line_feed all ≢ line log_header)
 IsFault names old new (faults.NoRow n) = IsStopped names old new n (λ rows text. text ≢ line message_header)
 IsFault names old new (faults.Earlier n) = IsStopped names old new n (λ rows text. IsEarlier names (last_at 0 rows) text)
-IsFault names old new faults.Unreadable = ⊤
-IsFault names old new faults.Memory = ⊤
+IsFault names old new fault = IsHeaderFault old fault
 
 -- the reader between two lines: the names, the figures so far, and the moment of the last row
 pub record ReadingState : Type 0 where
@@ -86,8 +85,6 @@ pub record IsNext (old new : ReadingState) (text : List ℕ) : Type 0 where
 
 -- when the line with this number is refused
 abbrev pub IsFaultAt : ReadingState → List ℕ → ℕ → LogFault → Type 0
-IsFaultAt r text number faults.NoHeader = ⊥
 IsFaultAt r text number (faults.NoRow n) = n ≡ number
 IsFaultAt r text number (faults.Earlier n) = (n ≡ number) × IsEarlier r.names r.latest text
-IsFaultAt r text number faults.Unreadable = ⊥
-IsFaultAt r text number faults.Memory = ⊤
+IsFaultAt r text number fault = IsReadFault fault

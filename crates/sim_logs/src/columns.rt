@@ -1,5 +1,5 @@
 //! Which columns a row has.
-ghost use Rattle.std.specs.Prelude.{◌≡◌, ◌↔◌, IsTrue, length, nat_lt};
+ghost use Rattle.std.specs.Prelude.{◌≡◌, ◌↔◌, IsTrue, Some};
 ghost use Rattle.sim_logs.specs.Columns.{HasItsColumns, columns_by, columns_of, detail_form, receipt_form};
 
 use sqs_message::{Detail, Row, RowAnswer, RowKind, RowReceipt};
@@ -126,9 +126,20 @@ impl Columns {
     }
 }
 
+// Whether there are columns, and they are these.
+fn are_these(columns: Option<Columns>, these: Columns) -> bool
+    ensures { IsTrue result ↔ (columns ≡ Some these) }
+{
+    match columns {
+        Some(columns) => columns == these,
+        None => false,
+    }
+}
+
 /// Whether the columns of a row have what its kind and its answer say.
 pub(crate) fn has_its_columns(row: &Row) -> bool
     ensures { IsTrue result ↔ HasItsColumns row.now }
 {
-    Columns::by(row.kind, row.answer) == Some(Columns::of(row))
+    let columns = Columns::by(row.kind, row.answer);
+    are_these(columns, Columns::of(row))
 }

@@ -1,7 +1,8 @@
 //! The lines of a log.
-ghost use Rattle.std.specs.Prelude.{◌≡◌, IfOk, OnOk, false};
+ghost use Rattle.std.specs.Prelude.{◌≡◌, IfErr, IfOk, OnOk, false};
 ghost use Rattle.std.specs.Io.{StartsWith, appended_bytes};
 ghost use Rattle.std.specs.Io.KnownBytes.{Consumes, IsAtEnd};
+ghost use Rattle.sim_logs.specs.Faults.{IsReadFault};
 
 use crate::fault::LogFault;
 use std::io::BufRead;
@@ -12,6 +13,7 @@ fn read_on<R: BufRead>(log: &mut R, text: &mut Vec<u8>) -> Result<bool, LogFault
     ensures read { Consumes (R.remaining log.old) (R.remaining log.new)
         (appended_bytes text.old.items text.new.items) }
     ensures end { IfOk result (λ some. some ≡ false → IsAtEnd (R.remaining log.old)) }
+    ensures fault { IfErr result IsReadFault }
 {
     let count = log.read_until(b'\n', text)?;
     Ok(count > 0)
@@ -28,9 +30,13 @@ fn close_quotes<R: BufRead>(log: &mut R, text: &mut Vec<u8>) -> Result<(), LogFa
     ensures appends { StartsWith text.new.items text.old.items }
     ensures read { Consumes (R.remaining log.old) (R.remaining log.new)
         (appended_bytes text.old.items text.new.items) }
+    ensures fault { IfErr result IsReadFault }
 {
     for _ in 0..u64::MAX {
-        if !is_open(text.as_slice()) || !read_on(log, text)? {
+        if !is_open(text.as_slice()) {
+            return Ok(());
+        }
+        if !read_on(log, text)? {
             return Ok(());
         }
     }
@@ -43,6 +49,7 @@ pub(crate) fn next_line<R: BufRead>(log: &mut R, text: &mut Vec<u8>) -> Result<b
     ensures read { OnOk result
         (Consumes (R.remaining log.old) (R.remaining log.new) text.new.items) }
     ensures end { IfOk result (λ some. some ≡ false → IsAtEnd (R.remaining log.old)) }
+    ensures fault { IfErr result IsReadFault }
 {
     text.clear();
     let some = read_on(log, text)?;

@@ -1,5 +1,5 @@
 //! The reader between two lines of a log.
-ghost use Rattle.std.specs.Prelude.{◌≡◌, ◌<◌, ◌↔◌, IfOk, IfSome, IsTrue, OnOk, All, [], ◌∷◌};
+ghost use Rattle.std.specs.Prelude.{◌≡◌, ◌<◌, ◌↔◌, ◌∷◌, [], All, IfErr, IfOk, IfSome, IsTrue, OnOk};
 ghost use Rattle.sqs_formats.specs.Rows.{Names as AgentNames, line, row_fields};
 ghost use Rattle.sim_report.specs.Figured.{FiguresState};
 ghost use Rattle.sim_logs.specs.Logs.{IsFaultAt, IsNext, IsRowOf, IsWritten, agent_in};

@@ -185,7 +185,11 @@ fn lines_that_are_no_rows(rt: HostRuntime) {
     for line in NO_ROWS {
         let log = joined(&rt, alloc, header(), line);
         let no_row = Some(LogFault::NoRow { line: 2 });
-        same(&rt, (line, fault(&rt, alloc, log.as_slice())), (line, no_row));
+        same(
+            &rt,
+            (line, fault(&rt, alloc, log.as_slice())),
+            (line, no_row),
+        );
     }
     let log = joined(&rt, alloc, LOG, b"5");
     let no_row = Some(LogFault::NoRow { line: 24 });
