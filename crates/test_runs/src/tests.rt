@@ -1,6 +1,7 @@
 //! The tests, a file for each crate or part that they test, and what they share.
 mod actor;
 mod figures;
+mod logs;
 mod partition;
 mod picks;
 mod recorder;

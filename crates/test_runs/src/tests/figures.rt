@@ -131,7 +131,7 @@ const ROWS: [(u64, u32, u32, RowKind, RowAnswer, Option<u64>, Detail); 22] = [
 ];
 
 /// The figures over the stretch.
-const FIGURES: &[u8] = b"figure,of,name,value
+pub const FIGURES: &[u8] = b"figure,of,name,value
 figure,q,sent,1
 figure,q,sent_again,0
 figure,q,came_by_forward,0
@@ -372,7 +372,7 @@ figure,c,busy_ms,50
 figure,c,busy_permille,555
 ";
 
-fn text(rt: &impl Abort, alloc: Global, name: &[u8]) -> Text {
+pub fn text(rt: &impl Abort, alloc: Global, name: &[u8]) -> Text {
     Text::new(name.to_vec(alloc).expect(rt, "memory"))
 }
 
@@ -430,7 +430,7 @@ fn queue(rt: &impl Abort, alloc: Global, name: &[u8], quota: u64) -> QueueAsked 
 
 /// The figures of no rows, over the stretch from 10 to before 100, where one message that waits is a
 /// backlog and a window has 40.
-fn fresh(rt: &impl Abort, alloc: Global) -> Figures {
+pub fn fresh(rt: &impl Abort, alloc: Global) -> Figures {
     let queues = vec![in alloc; queue(rt, alloc, b"q", 2), queue(rt, alloc, b"d", 10)];
     let actors = vec![in alloc; text(rt, alloc, b"c")].expect(rt, "memory");
     let stretch = Stretch {
