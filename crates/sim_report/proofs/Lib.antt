@@ -3,7 +3,7 @@ pub mod Counted
 pub mod Tallies
 pub mod Groups
 pub mod Comparing
-mod Figuring
+pub mod Figuring
 mod Marked
 mod Named
 mod FiguresEnd

@@ -322,10 +322,13 @@ queue_ages w q =
     ages_named (codes "age") w q.ages
     ++ (ages_named (codes "new_age") w q.new_ages ++ ages_named (codes "moved_age") w q.moved_ages)
 
--- the bounds of ages, with the messages that are left
+-- the bounds of ages, with the ages of the messages that are left, or with these messages
+abbrev pub age_bounds : Wanted → List ℕ → Aged → List (Option ℕ)
+age_bounds w left a = bound_numbers w a.ages a.windows left
+
 abbrev pub bounds_named : List ℕ → Wanted → List (ℕ × ℕ) → Aged → List Figure
 bounds_named name w ms a =
-    zip (bound_names name) (bound_numbers w a.ages a.windows (ascending (ages_at (w.stretch.until - 1) ms)))
+    zip (bound_names name) (age_bounds w (ascending (ages_at (w.stretch.until - 1) ms)) a)
 
 unfoldable pub bounds_by : Wanted → QueueState → List Figure
 bounds_by w q =

@@ -1,8 +1,7 @@
 //! Ages of deletions, of all and by windows of time.
 ghost use Rattle.std.specs.Prelude.{◌≡◌, map, zip, IfOk, OnOk};
 ghost use Rattle.std.specs.List.Sorted.{IsNonDecreasing};
-ghost use Rattle.sim_report.specs.Figured.{age_numbers, aged_with, no_aged};
-ghost use Rattle.sim_report.specs.Figures.{bound_numbers};
+ghost use Rattle.sim_report.specs.Figured.{age_bounds, age_numbers, aged_with, no_aged};
 
 use crate::ages::Ages;
 use crate::asked::Wanted;
@@ -60,8 +59,8 @@ impl Aged {
         names: [&'static [u8]; BOUNDS],
     ) -> Result<[Figure; BOUNDS], AllocError>
         requires { IsNonDecreasing left.now }
-        ensures { IfOk result (λ figures. figures
-            ≡ zip (map (λ n. n.now) names.entry) (bound_numbers wanted self.now.ages self.now.windows left.now)) }
+        ensures { IfOk result (λ v. v
+            ≡ zip (map (λ n. n.now) names.entry) (age_bounds wanted left.now self.now)) }
     {
         let ended = self.ages.counted(alloc)?;
         let all = ended.merged(alloc, left)?;

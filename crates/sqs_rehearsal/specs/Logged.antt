@@ -10,7 +10,7 @@ use Rattle.sqs_rehearsal.specs.Endings.{figures_of}
 
 -- what was read, from what a reader had to what it has left, is the log of rows in the order of time, by the names of a
 -- scenario, and these are their figures
-pub record AreFiguresOf (s : Scenario) (w : Wanted) (old new : Option (List ℕ)) (text : List ℕ) : Type 0 where
+pub record AreFigures (s : Scenario) (w : Wanted) (old new : Option (List ℕ)) (text : List ℕ) : Type 0 where
   pub rows : List Row
   pub turns : AreInTurn 0 rows
   pub written : All (IsWritten s.names) rows

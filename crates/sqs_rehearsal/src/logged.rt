@@ -1,6 +1,6 @@
 //! The figures of a log.
 ghost use Rattle.std.specs.Prelude.{◌≡◌, IfOk};
-ghost use Rattle.sqs_rehearsal.specs.Logged.{AreFiguresOf};
+ghost use Rattle.sqs_rehearsal.specs.Logged.{AreFigures};
 
 use crate::outcome::{copies, fresh_figures};
 use sim_logs::{LogFault, read_log};
@@ -23,8 +23,8 @@ pub fn figures_of_log<R: BufRead>(
     wanted: Wanted,
     log: &mut R,
 ) -> Result<Vec<u8>, LogFault>
-    ensures { IfOk result (λ text. AreFiguresOf scenario.now wanted
-        (R.remaining log.old) (R.remaining log.new) text.items) }
+    ensures { IfOk result (λ v. AreFigures scenario.now wanted
+        (R.remaining log.old) (R.remaining log.new) v.items) }
 {
     let fresh = fresh_figures(alloc, scenario, wanted)?;
     let names = Names::new(copies(alloc, scenario.names())?);

@@ -64,7 +64,11 @@ fn queues_asked(
 
 /// The figures of no rows of a scenario over the part of a stretch that lies in its run. It fails if
 /// memory runs out.
-pub fn fresh_figures(alloc: Global, scenario: &Scenario, wanted: Wanted) -> Result<Figures, AllocError>
+pub fn fresh_figures(
+    alloc: Global,
+    scenario: &Scenario,
+    wanted: Wanted,
+) -> Result<Figures, AllocError>
     ensures { IfOk result (λ figures. figures ≡ no_figures scenario.now wanted) }
 {
     let queues = scenario.queues().len();

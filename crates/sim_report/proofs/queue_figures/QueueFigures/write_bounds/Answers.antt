@@ -4,8 +4,8 @@ use Rattle.std.proofs.lemmas.Result.{on_ok_weaker}
 use Rattle.sqs_formats.specs.Report.{ascending}
 use Rattle.sqs_formats.specs.Rows.{lines}
 use Rattle.sim_report.specs.declared.aged.Aged.{Aged}
-use Rattle.sim_report.specs.Figured.{QueueState, bounds_named}
-use Rattle.sim_report.specs.Figures.{Figure, ages_at, apart, bound_names, bound_numbers, figure_fields}
+use Rattle.sim_report.specs.Figured.{QueueState, age_bounds, bounds_named}
+use Rattle.sim_report.specs.Figures.{Figure, ages_at, apart, bound_names, figure_fields}
 use Rattle.sim_report.proofs.FiguresEnd.{bounds-lines}
 use Rattle.sim_report.proofs.queue_figures.QueueFigures.write_bounds.Goals as goal
 
@@ -24,7 +24,7 @@ returns c =
     let said : List ℕ → List Figure → List ℕ = λ name figures. lines (map (figure_fields name) figures) in
     let of : c.as_bytes-of.result.now ≡ q.asked.name = c.as_bytes-of.ensures ∙ ap (λ (x : QueueState). x.asked.name) c.self.view_is in
     let left : List (ℕ × ℕ) → List ℕ = λ ms. ascending (ages_at (w.stretch.until - 1) ms) in
-    let bounded : List ℕ → Aged → List ℕ → List Figure = λ name a ns. zip (bound_names name) (bound_numbers w a.ages a.windows ns) in
+    let bounded : List ℕ → Aged → List ℕ → List Figure = λ name a ns. zip (bound_names name) (age_bounds w ns a) in
     let none_apart : c.as_slice.result.now ≡ left inside.there =
     c.as_slice.ensures.value ∙ c.in_ok-left.ensures.same ∙ ap (λ at. ascending (ages_at at inside.there)) c.last-at.ensures in
     let new_apart : c.as_slice-2.result.now ≡ left (apart false inside.moved inside.there) =
