@@ -447,8 +447,8 @@ ages_in n w = cond (w.number == n) w.ages []
 abbrev pub worst_with : ℕ → Windows → Option ℕ → Option ℕ
 worst_with n w age = option_map (λ (x : Worst). x.age) (worse (worst_before n w) n age)
 
--- the least and the greatest that a percentile of ages can be, in ascending order, once the messages that are left, with
--- these ages now, end too: as if each ended now, and as if none ever did
+-- the least and the greatest that a percentile of ages, in ascending order, can be once the messages that are left end
+-- too, which have these ages now: as if each ended now, and as if none ever did
 abbrev pub bounds_at : ℕ → List ℕ → List ℕ → List (Option ℕ)
 bounds_at percent ended left =
     rank_in percent (ascending (ended ++ left)) ∷ rank_below percent (length left) ended ∷ []
