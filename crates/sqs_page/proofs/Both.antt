@@ -26,8 +26,7 @@ pub output_of_both : (asked : Asked) (text : List ℕ) (files : Files) (log repo
 output_of_both asked text files log report first second all fresh got empty rest is w =
     let log_is : Appends (Some []) (Some first) (log_of w.of.scenario w.of.run) =
     subst (λ x. Appends x (Some first) (log_of w.of.scenario w.of.run)) fresh (subst (λ x. Appends log.before.held x (log_of w.of.scenario w.of.run)) got w.whole_log.bytes) in
-    let rest_is : Appends (Some []) (Some second) (ending_with w.of.scenario asked.figures w.of.run) =
-    subst (λ x. Appends x (Some second) (ending_with w.of.scenario asked.figures w.of.run)) empty (subst (λ x. Appends report.before.held x (ending_with w.of.scenario asked.figures w.of.run)) rest w.whole_report.bytes) in
+    let rest_is = subst (λ x. Appends x (Some second) (ending_with w.of.scenario asked.figures w.of.run)) empty (subst (λ x. Appends report.before.held x (ending_with w.of.scenario asked.figures w.of.run)) rest w.whole_report.bytes) in
     record { of = w.of; not_over = w.not_over; whole = is ∙ ap (λ (l : List ℕ). l ++ second) log_is ∙ ap (λ (e : List ℕ). log_of w.of.scenario w.of.run ++ e) rest_is }
 
 -- the queues of a scenario on one list are those of the first partition

@@ -5,8 +5,9 @@ ghost use Rattle.sim_records.specs.Writers.{has_failed};
 use crate::tests::worked::{ONE_SEND, Worked};
 use sim_clock::Refusal;
 use sim_records::ToWriter;
-use sim_scenario::Scripts;
-use sqs_rehearsal::{Fault, Gate, Open, Options, Running, rehearse};
+use sim_report::{Stretch, Wanted};
+use sim_scenario::{Draft, Scripts};
+use sqs_rehearsal::{Fault, Gate, Open, Options, Running, rehearse, rehearse_alone};
 use std::alloc::Global;
 use std::io::{Error, ErrorKind, Write};
 use std::sync::Wait;
@@ -142,6 +143,39 @@ pub fn wrong_cut<W: Threads + Wait + Sync>(
         }
     }
     None
+}
+
+/// What a rehearsal on this thread alone writes behind the report, if the rest is what is given.
+fn behind_the_report(alloc: Global, given: Worked, figures: Option<Wanted>) -> Option<Vec<u8>> {
+    let draft = Draft::parse(alloc, given.text).ok()?;
+    let mut log = writer(alloc, MANY);
+    let mut ending = writer(alloc, MANY);
+    let scripts = Scripts::new(Vec::new(alloc));
+    rehearse_alone(alloc, draft, &scripts, figures, &mut log, &mut ending).ok()?;
+    let ending = ending.into_inner().held;
+    let behind = ending
+        .as_slice()
+        .strip_prefix(given.ending)?
+        .to_vec(alloc)
+        .ok()?;
+    (log.into_inner().held.as_slice() == given.log).then_some(behind)
+}
+
+#[test]
+fn figures_follow_the_report_if_they_are_wanted(rt: HostRuntime) {
+    let wanted = Wanted {
+        stretch: Stretch {
+            from: 0,
+            until: u64::MAX,
+        },
+        backlog: 10,
+        window: 1,
+    };
+    let none = behind_the_report(rt.alloc(), ONE_SEND, None);
+    assert!(rt; matches!(&none, Some(behind) if behind.is_empty()));
+    let some = behind_the_report(rt.alloc(), ONE_SEND, Some(wanted));
+    let begin = b"figure,of,name,value\nfigure,q,sent,1\nfigure,q,sent_again,0\n";
+    assert!(rt; matches!(&some, Some(behind) if behind.as_slice().starts_with(begin)));
 }
 
 #[test]
