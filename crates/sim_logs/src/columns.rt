@@ -67,7 +67,7 @@ fn detail_form(detail: Detail) -> DetailForm
 
 impl Columns {
     /// What the columns of a row of this kind with this answer have, if the program writes such rows.
-    pub fn by(kind: RowKind, answer: RowAnswer) -> Option<Columns>
+    pub(crate) fn by(kind: RowKind, answer: RowAnswer) -> Option<Columns>
         ensures { result ≡ columns_by kind answer }
     {
         let (message, receipt, detail) = match (kind, answer) {

@@ -11,6 +11,5 @@ mod log;
 mod parts;
 mod reading;
 
-pub use columns::{Columns, DetailForm, ReceiptForm};
 pub use fault::LogFault;
 pub use log::read_log;
