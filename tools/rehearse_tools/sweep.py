@@ -54,16 +54,16 @@
 --settling draws into a file, SVG, PNG or PDF, the mean depth of each queue over the runs that the advice looks at, its
           moving mean by Welch, and from when on to count. It goes with --spread.
 --to      ends each run at this time, including what happens at it
---columns the columns that are printed, between commas: those of the report, and some for which the log is read:
+--columns the columns that are printed, between commas: those of the report, and
           door_age_p50, door_age_p95, door_age_max: ages since the first send of messages that were deleted, empty if
-            they are open, as `summary --help` says under --door
+            they are open, as `summary --help` says under --door. For these alone the log is read.
           new_age_p50 .. new_age_max, moved_age_p50 .. moved_age_max: ages of messages that a move task did not bring
             into the queue, and of those that one brought
           window_age_p95: the greatest 95th percentile of age among windows of --window (5min), by time of deletion
           backlog_gone: when a backlog ended last, as `summary --help` has it: 0 if there was none, empty at its end
           requests, cost: API requests as `summary` counts them, and what they cost at --price a million
           depth_max_at_ms, in_flight_max, in_flight_max_at_ms, received_again, tries_max, busy: as docs/STATISTICS.md
-            has them; for these alone no log is read
+            has them
 --table   prints a table for people in place of CSV, without columns, and rows of queues, that have no number
 --preview reads version 3 of scenarios too, as `run --preview` does
 --program the program; without it SQS_REHEARSE of the environment, else sqs_rehearse beside this folder
