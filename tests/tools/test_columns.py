@@ -42,7 +42,15 @@ TEXT = ended(HEADER + ROWS, "final,a,m-0-3,o-0-3,visible,,9000,0,,x\n")
 
 
 # The scenario of this log, as far as a log is read by it.
-SCENARIO = "version = 1\nhorizon = 20000\n" + "".join(f"[[queue]]\nname = {json.dumps(name)}\n" for name in "ad") + """
+SCENARIO = """version = 1
+horizon = 20000
+[[queue]]
+name = "a"
+dead_letter = "d"
+max_receives = 1
+latency_ms = 20
+[[queue]]
+name = "d"
 [[actor]]
 name = "shop"
 kind = "script"

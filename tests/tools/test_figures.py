@@ -123,7 +123,7 @@ class Readers(ToolCase):
     def test_damage(self) -> None:
         """A line that is cut, or has other fields, is damage here as elsewhere."""
         for damaged, told in ((FIGURES[:-1], " ends within a line"),
-                              (FIGURES + "figure,a,sent\n", " line 101 is no record of the part figure after a log")):
+                              (FIGURES + "figure,a,sent\n", " line 99 is no record of the part figure after a log")):
             path = self.write("run.txt", LOG + PARTS + damaged)
             self.assert_fault(self.run_tool("summary", path), f"summary: {path}{told}")
 
