@@ -208,10 +208,11 @@ export class Figure {
   /** @param {{ most: number, isBroken: boolean, text: string }} line @param {Scale} y @param {number} top */
   lineOf({ most, isBroken, text }, y, top) {
     const { width } = this.room, className = isBroken ? 'broken' : '';
-    return [drawn('line', { class: `required ${className}`, x1: LEFT, x2: width - RIGHT, y1: y(most), y2: y(most) }),
-      // in a small picture it stands beside the caption
-      this.room.only ? drawn('text', { class: className, x: width - RIGHT - 4, y: top - 4, 'text-anchor': 'end' }, text)
-        : drawn('text', { class: className, x: LEFT + 4, y: y(most) - 3 }, text)];
+    const line = drawn('line', { class: `required ${className}`, x1: LEFT, x2: width - RIGHT, y1: y(most), y2: y(most) });
+    if (!this.room.only) return [line, drawn('text', { class: className, x: LEFT + 4, y: y(most) - 3 }, text)];
+    // in a small picture it stands beside the caption, and that of two variants has no room for it
+    if (this.shares.length > 1) return [line];
+    return [line, drawn('text', { class: className, x: width - RIGHT - 4, y: top - 4, 'text-anchor': 'end' }, text)];
   }
 
   // What stands above a panel; that of a small picture names the queue, or one of two variants.
