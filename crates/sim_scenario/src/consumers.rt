@@ -15,7 +15,8 @@ use crate::producers::stopping;
 use crate::queues::{latency, latency_keys};
 use crate::section::{ACTOR_KEYS, Section};
 use sqs_message::{Listed, Text};
-use sqs_model::{ConsumerSettings, Forwarding, Role, Stretch};
+use sqs_model::{ConsumerSettings, Forwarding, Outage, Role, Serving, Stretch};
+use std::alloc::{AllocError, Global};
 
 /// The keys of every consumer.
 const CONSUMER_KEYS: &[&str] = &[
@@ -116,6 +117,18 @@ fn outage(has_outage: bool, section: &Section<'_>) -> Result<Option<Stretch>, Re
     Ok(Some(Stretch { from, to }))
 }
 
+/// The outages of a consumer that has at most one, during which each service fails.
+fn outages(alloc: Global, outage: Option<Stretch>) -> Result<Listed<Outage>, AllocError> {
+    let mut outages = Vec::new(alloc);
+    if let Some(stretch) = outage {
+        outages.push(Outage {
+            stretch,
+            permille: 1000,
+        })?;
+    }
+    Ok(Listed::new(outages))
+}
+
 /// A failed service fails its message alone.
 const EACH: bool = false;
 
@@ -175,14 +188,16 @@ pub(crate) fn consumer(
         wait,
         timeout,
         service,
+        serving: Serving::Each,
         fail_permille,
         idle,
         forward,
         stop,
         fails_on,
-        outage,
+        outages: outages(section.alloc, outage)?,
         whole,
         backoff,
+        jitter: false,
         heartbeat,
     }))
 }
