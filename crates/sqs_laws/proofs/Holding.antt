@@ -16,7 +16,7 @@ use Rattle.sqs_model.specs.declared.agents.Role.{Role}
 use Rattle.sqs_model.specs.declared.agents.Role.TheVariants.{Consumer, Producer, Script}
 use Rattle.sqs_model.specs.declared.agents.Serving.{Serving}
 use Rattle.sqs_model.specs.declared.agents.Serving.TheVariants.{Each, Once}
-use Rattle.sqs_model.specs.Actor.{Actor, Asked, Beat, Ended, Failed, LastAct, Served, act_of, after_failure, at_stake, begins_next, consumer_got, consumer_told, consumer_wake, ends_drawn, ends_service, ends_well, ends_whole, failing_at, fails, goes_on, woken, has_come, has_failed, next, next_as, producer_sent, producer_wake, rests, script_wake, served_all, serves, serving, settles}
+use Rattle.sqs_model.specs.Actor.{Actor, Asked, Beat, Ended, Failed, Gathered, LastAct, Served, act_of, after_failure, asks_for_more, at_stake, begins_next, consumer_told, consumer_wake, ends_drawn, ends_service, ends_well, ends_whole, failing_at, fails, gathers_on, goes_on, got_more, holds_on, is_gathered, woken, has_come, has_failed, next, next_as, producer_sent, producer_wake, rests, script_wake, served_all, serves, serves_on, serving, settles}
 use Rattle.sqs_model.specs.Draw.{Draws, drawn_chance}
 use Rattle.sqs_model.proofs.Branches.{either}
 use Rattle.sqs_laws.proofs.Giving.{AreKnown, IsKnown}
@@ -109,11 +109,32 @@ module _ (site arrivals : ℕ) where
     rests_acts a c [] (g ∷ gs) h f d = settles_acts a c g gs h d.0 d.1
     rests_acts a c [] [] h f d = either Acts (has_come c.stop now) _ _ (idles a h) (record { informed = with_lists _ h.held h.done h.failed; serves = tt })
 
-    wake_acts : (a : Actor) (c : ConsumerSettings) (gs : List Got) → IsInformed a → AreKnown site arrivals gs → Acts (consumer_wake a c now gs)
-    wake_acts a c [] h k = rests_acts a c a.failed a.done h h.failed h.done
-    wake_acts a c (g ∷ gs) h k =
+    serves_on_acts : (a : Actor) (c : ConsumerSettings) (g : Got) (gs : List Got) → IsInformed a → AreKnown site arrivals (g ∷ gs) → Acts (serves_on a c now g gs)
+    serves_on_acts a c g gs h k =
         either Acts (goes_on c.heartbeat a.ends now) _ _ (record { informed = with_lists _ h.held h.done h.failed; serves = tt })
         (drawn_acts (record a { held = gs }) c g (drawn_chance (failing_at c.outages c.fail_permille now) a.draws) (with_lists _ k.1 h.done h.failed) k.0)
+
+    gathers_acts : (a : Actor) (c : ConsumerSettings) (after : ℕ) → IsInformed a → Acts (acts.Nothing, gathers_on a c now after)
+    gathers_acts a c after h =
+        either (λ (b : Actor). Acts (acts.Nothing, b)) (is_gathered a c now) _ _ (record { informed = with_lists _ h.held h.done h.failed; serves = tt })
+        (record { informed = with_lists _ h.held h.done h.failed; serves = tt })
+
+    more_acts : (a : Actor) (c : ConsumerSettings) → IsInformed a → Acts (asks_for_more a c now)
+    more_acts a c h =
+        either Acts (is_gathered a c now) _ _ (record { informed = with_lists _ h.held h.done h.failed; serves = tt })
+        (record { informed = h; serves = tt })
+
+    holds_acts : (last : LastAct) (a : Actor) (c : ConsumerSettings) (g : Got) (gs : List Got) → IsInformed a → AreKnown site arrivals (g ∷ gs) → Acts (holds_on last a c now g gs)
+    holds_acts Gathered a c g gs h k = more_acts a c h
+    holds_acts Asked a c g gs h k = serves_on_acts a c g gs h k
+    holds_acts (Served r) a c g gs h k = serves_on_acts a c g gs h k
+    holds_acts Ended a c g gs h k = serves_on_acts a c g gs h k
+    holds_acts Failed a c g gs h k = serves_on_acts a c g gs h k
+    holds_acts Beat a c g gs h k = serves_on_acts a c g gs h k
+
+    wake_acts : (a : Actor) (c : ConsumerSettings) (gs : List Got) → IsInformed a → AreKnown site arrivals gs → Acts (consumer_wake a c now gs)
+    wake_acts a c [] h k = rests_acts a c a.failed a.done h h.failed h.done
+    wake_acts a c (g ∷ gs) h k = holds_acts a.last_act a c g gs h k
 
     next_one_acts : (s : Serving) (a : Actor) (c : ConsumerSettings) (gs : List Got) → IsInformed a → AreKnown site arrivals gs → Acts (acts.Nothing, begins_next s (record a { held = gs }) c now)
     next_one_acts Each a c gs h k = record { informed = with_lists _ k h.done h.failed; serves = tt }
@@ -123,9 +144,11 @@ module _ (site arrivals : ℕ) where
     serving_acts a c [] h k = record { informed = with_lists _ tt h.done h.failed; serves = tt }
     serving_acts a c (g ∷ gs) h k = next_one_acts c.serving a c (g ∷ gs) h k
 
-    got_acts : (a : Actor) (c : ConsumerSettings) (gs : List Got) → IsInformed a → AreKnown site arrivals gs → Acts (consumer_got a c now gs)
-    got_acts a c [] h k = record { informed = with_lists _ h.held h.done h.failed; serves = tt }
-    got_acts a c (g ∷ gs) h k = record { informed = with_lists _ k tt tt; serves = tt }
+    got_acts : (held : List Got) (a : Actor) (c : ConsumerSettings) (gs : List Got) → AreKnown site arrivals held → IsInformed a → AreKnown site arrivals gs → Acts (got_more held a c now gs)
+    got_acts [] a c [] l h k = record { informed = with_lists _ h.held h.done h.failed; serves = tt }
+    got_acts [] a c (g ∷ gs) l h k = gathers_acts (record a { held = g ∷ gs; done = []; failed = []; ends = now + c.gather }) c 0 (with_lists _ k tt tt)
+    got_acts (x ∷ xs) a c [] l h k = gathers_acts a c c.idle h
+    got_acts (x ∷ xs) a c (g ∷ gs) l h k = gathers_acts (record a { held = x ∷ xs ++ g ∷ gs }) c 0 (with_lists _ (known_append (x ∷ xs) (g ∷ gs) l k) h.done h.failed)
 
     failed_acts : (a : Actor) (c : ConsumerSettings) (gs : List Got) → IsInformed a → AreKnown site arrivals gs → Acts (has_failed a c now gs)
     failed_acts a c [] h k = serving_acts a c a.held h h.held
@@ -133,6 +156,7 @@ module _ (site arrivals : ℕ) where
 
     told_acts : (a : Actor) (c : ConsumerSettings) (last : LastAct) → IsInformed a → Acts (consumer_told a c now last)
     told_acts a c Asked h = record { informed = with_lists _ h.held h.done h.failed; serves = tt }
+    told_acts a c Gathered h = gathers_acts a c c.idle h
     told_acts a c (Served receipt) h = record { informed = with_lists _ h.held h.done h.failed; serves = tt }
     told_acts a c Ended h = serving_acts a c a.held h h.held
     told_acts a c Failed h = failed_acts a c a.failed h h.failed
@@ -145,7 +169,7 @@ module _ (site arrivals : ℕ) where
     as_acts (Producer p) a told_by.Other h k = sent_acts a p h
     as_acts (Producer p) a w h k = idles a h
     as_acts (Consumer c) a told_by.Wake h k = wake_acts (woken a) c a.held (with_lists _ h.held h.done h.failed) h.held
-    as_acts (Consumer c) a (told_by.Got gots) h k = got_acts a c gots h k
+    as_acts (Consumer c) a (told_by.Got gots) h k = got_acts a.held a c gots h.held h k
     as_acts (Consumer c) a told_by.Waiting h k = idles a h
     as_acts (Consumer c) a told_by.Other h k = told_acts a c a.last_act h
 

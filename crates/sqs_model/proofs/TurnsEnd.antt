@@ -27,7 +27,7 @@ use Rattle.sqs_redrive.specs.declared.settings.Kind.TheVariants.{Fifo, Standard}
 use Rattle.sqs_redrive.specs.declared.settings.Policy.{Policy}
 use Rattle.sqs_redrive.specs.declared.transfers.Load.{Load}
 use Rattle.sqs_redrive.specs.declared.transfers.Outbound.{Outbound}
-use Rattle.sqs_model.specs.Actor.{Actor, Asked, Beat, Ended, Failed, Served, LastAct, act_of, backoff_at, backoff_drawn, consumer_got, consumer_told, consumer_wake, has_come, has_failed, next, next_as, producer_wake, script_wake, woken}
+use Rattle.sqs_model.specs.Actor.{Actor, Asked, Beat, Ended, Failed, Gathered, Served, LastAct, act_of, backoff_at, backoff_drawn, consumer_told, consumer_wake, got_more, has_come, has_failed, next, next_as, producer_wake, script_wake, woken}
 use Rattle.std.specs.List.{list_any}
 use Rattle.sim_clock.specs.declared.refusal.Refusal.TheVariants as refusals
 use Rattle.sqs_message.specs.declared.row.RowAnswer.TheVariants as answers
@@ -41,7 +41,7 @@ use Rattle.sqs_model.specs.Site.{Core, Effect, actor_numbered, is_actor, joined,
 use Rattle.sqs_model.specs.Task.{Task}
 use Rattle.sqs_model.specs.Turns.{TurnsEnd}
 use Rattle.sqs_model.proofs.Branches.{either}
-use Rattle.sqs_model.proofs.ConsumerWakes.{consumer_woke}
+use Rattle.sqs_model.proofs.ConsumerWakes.{IsLate, consumer_woke}
 use Rattle.sqs_model.proofs.Counts.{find_picked}
 use Rattle.sqs_model.proofs.Growth.{Turns, changed_found, next_up}
 
@@ -243,13 +243,16 @@ producer_over more p now x (told_by.Got gots) h = tt
 producer_over more p now x told_by.Waiting h = tt
 producer_over more p now x told_by.Other h = either (λ (y : Act × Actor). IsOverAfter more y) (nat_lt x.wakes p.count) _ _ tt tt
 
-got_over : (more : Actor → Answer → Type 0) (c : ConsumerSettings) (now : ℕ) (x : Actor) (gots : List Got) → IsOverAfter more (consumer_got x c now gots)
-got_over more c now x [] = tt
-got_over more c now x (g ∷ gs) = tt
+got_over : (more : Actor → Answer → Type 0) (c : ConsumerSettings) (now : ℕ) (x : Actor) (held gots : List Got) → IsOverAfter more (got_more held x c now gots)
+got_over more c now x [] [] = tt
+got_over more c now x [] (g ∷ gs) = tt
+got_over more c now x (h ∷ hs) [] = tt
+got_over more c now x (h ∷ hs) (g ∷ gs) = tt
 
 -- whether a consumer has nothing to delete
 abbrev IsIdle : LastAct → Type 0
 IsIdle Asked = Unit {0}
+IsIdle Gathered = Unit {0}
 IsIdle (Served r) = ⊥
 IsIdle Ended = Unit {0}
 IsIdle Failed = ⊥
@@ -257,6 +260,7 @@ IsIdle Beat = Unit {0}
 
 idle_over : (more : Actor → Answer → Type 0) (c : ConsumerSettings) (now : ℕ) (x : Actor) (s : LastAct) → IsIdle s → IsOverAfter more (consumer_told x c now s)
 idle_over more c now x Asked h = tt
+idle_over more c now x Gathered h = tt
 idle_over more c now x (Served r) h = absurd h
 idle_over more c now x Ended h = tt
 idle_over more c now x Failed h = absurd h
@@ -264,7 +268,7 @@ idle_over more c now x Beat h = tt
 
 consumer_over : (more : Actor → Answer → Type 0) (c : ConsumerSettings) (now : ℕ) (x : Actor) (w : Answer) → IsIdle x.last_act → IsAnswer w → IsOverAfter more (next_as (Consumer c) x now w)
 consumer_over more c now x told_by.Wake i h = absurd h
-consumer_over more c now x (told_by.Got gots) i h = got_over more c now x gots
+consumer_over more c now x (told_by.Got gots) i h = got_over more c now x x.held gots
 consumer_over more c now x told_by.Waiting i h = tt
 consumer_over more c now x told_by.Other i h = idle_over more c now x x.last_act i
 
@@ -283,6 +287,7 @@ failed_over k now c x (g ∷ gs) e =
 
 told_over : (k now : ℕ) (c : ConsumerSettings) (x : Actor) (s : LastAct) → x.settings.role ≡ Consumer c → IsOverAfter (IsOver (suc k) now) (consumer_told x c now s)
 told_over k now c x Asked e = tt
+told_over k now c x Gathered e = tt
 told_over k now c x (Served r) e =
     λ y w h l. over_by k now y w (Consumer c) (role_left (record x { last_act = Ended }) y l ∙ e) (consumer_over (IsOver k now) c now y w (subst IsIdle (sym (stage_left (record x { last_act = Ended }) y l)) tt) h)
 told_over k now c x Ended e = tt
@@ -291,7 +296,7 @@ told_over k now c x Beat e = tt
 
 answer_over : (k now : ℕ) (c : ConsumerSettings) (x : Actor) (w : Answer) → x.settings.role ≡ Consumer c → IsAnswer w → IsOver (suc (suc k)) now x w
 answer_over k now c x told_by.Wake e h = absurd h
-answer_over k now c x (told_by.Got gots) e h = over_by (suc k) now x (told_by.Got gots) (Consumer c) e (got_over (IsOver (suc k) now) c now x gots)
+answer_over k now c x (told_by.Got gots) e h = over_by (suc k) now x (told_by.Got gots) (Consumer c) e (got_over (IsOver (suc k) now) c now x x.held gots)
 answer_over k now c x told_by.Waiting e h = over_by (suc k) now x told_by.Waiting (Consumer c) e tt
 answer_over k now c x told_by.Other e h = over_by (suc k) now x told_by.Other (Consumer c) e (told_over k now c x x.last_act e)
 
@@ -301,10 +306,10 @@ acts_over more acts.Nothing a f = tt
 acts_over more act a f = f
 
 -- whatever a consumer does when it wakes
-wake_over : (now : ℕ) (c : ConsumerSettings) (a : Actor) (gs : List Got) → a.settings.role ≡ Consumer c → IsOverAfter (IsOver 2 now) (consumer_wake a c now gs)
-wake_over now c a gs e =
+wake_over : (now : ℕ) (c : ConsumerSettings) (a : Actor) (gs : List Got) → IsLate now a.wake → a.settings.role ≡ Consumer c → IsOverAfter (IsOver 2 now) (consumer_wake a c now gs)
+wake_over now c a gs late e =
     let x : Act × Actor = consumer_wake a c now gs in
-    acts_over (IsOver 2 now) x.0 x.1 (λ y w h l. answer_over 0 now c y w (role_left x.1 y l ∙ ap (λ (s : ActorSettings). s.role) (consumer_woke now a c gs).stays.settings ∙ e) h)
+    acts_over (IsOver 2 now) x.0 x.1 (λ y w h l. answer_over 0 now c y w (role_left x.1 y l ∙ ap (λ (s : ActorSettings). s.role) (consumer_woke now a c gs late).stays.settings ∙ e) h)
 
 -- a producer that sends or stops
 sends_over : (now : ℕ) (p : ProducerSettings) (a : Actor) → a.settings.role ≡ Producer p → IsOverAfter (IsOver 2 now) (producer_wake a p now)
@@ -321,7 +326,7 @@ calls_over now s a (c ∷ cs) e = acts_over (IsOver 2 now) (act_of c.call) _ (λ
 three_as : (now : ℕ) (a : Actor) (w : Answer) (r : Role) → a.settings.role ≡ r → IsOver 3 now a w
 three_as now a told_by.Wake (Script s) e = over_by 2 now a told_by.Wake (Script s) e (calls_over now s a (drop a.wakes s) e)
 three_as now a told_by.Wake (Producer p) e = over_by 2 now a told_by.Wake (Producer p) e (sends_over now p a e)
-three_as now a told_by.Wake (Consumer c) e = over_by 2 now a told_by.Wake (Consumer c) e (wake_over now c (woken a) a.held e)
+three_as now a told_by.Wake (Consumer c) e = over_by 2 now a told_by.Wake (Consumer c) e (wake_over now c (woken a) a.held tt e)
 three_as now a (told_by.Got gots) (Script s) e = over_by 2 now a (told_by.Got gots) (Script s) e tt
 three_as now a (told_by.Got gots) (Producer p) e = over_by 2 now a (told_by.Got gots) (Producer p) e tt
 three_as now a (told_by.Got gots) (Consumer c) e = answer_over 1 now c a (told_by.Got gots) e tt

@@ -1,7 +1,7 @@
 -- Scripts, producers and consumers: what an actor does next, and when it wakes.
 use Rattle.std.specs.Fmt.{decimal}
 use Rattle.std.specs.List.{list_any}
-use Rattle.std.specs.Prelude.{Bool, List, None, Option, Some, [], drop, false, get_or, if◌then◌else◌, length, max, min, nat_le, nat_lt, take, true, ℕ, ◌%◌, ◌&&◌, ◌*◌, ◌++◌, ◌+◌, ◌-◌, ◌||◌, ◌∷◌}
+use Rattle.std.specs.Prelude.{Bool, List, None, Option, Some, [], drop, false, get_or, if◌then◌else◌, length, max, min, nat_le, nat_lt, take, true, ℕ, ◌%◌, ◌&&◌, ◌*◌, ◌++◌, ◌+◌, ◌-◌, ◌/◌, ◌||◌, ◌∷◌}
 use Rattle.sqs_message.specs.Bodies.{contains, filled}
 use Rattle.sqs_message.specs.declared.calls.Call.{Call}
 use Rattle.sqs_message.specs.declared.calls.ScriptCall.{ScriptCall}
@@ -29,18 +29,19 @@ use Rattle.sqs_message.specs.declared.calls.Call.TheVariants as calls
 use Rattle.sqs_redrive.specs.declared.transfers.Load.TheVariants as loads
 use Rattle.sqs_model.specs.declared.acts.Answer.TheVariants as told_by
 
--- what a consumer did last: it asked for messages, served one, ended a service or did what follows one, failed to serve
--- one, or set a visibility timeout anew while it serves
+-- what a consumer did last: it asked for messages, asked for more while it holds some, served one, ended a service or did
+-- what follows one, failed to serve one, or set a visibility timeout anew while it serves
 pub data LastAct : Type 0 where
   Asked : LastAct
+  Gathered : LastAct
   Served : Receipt → LastAct
   Ended : LastAct
   Failed : LastAct
   Beat : LastAct
 
 -- an actor: the messages that it holds and has not served; those that it served and will delete when all of their
--- receive are served; those whose timeouts it will change since a service failed; when the service ends; its numbers of
--- wakes, waiting polls and transfers; its draws
+-- receive are served; those whose timeouts it will change since a service failed; when the service ends, or before it the
+-- time to gather messages; its numbers of wakes, waiting polls and transfers; its draws
 pub record Actor : Type 0 where
   pub number : ℕ
   pub settings : ActorSettings
@@ -280,15 +281,42 @@ serves_on a c now g gs =
     if goes_on c.heartbeat a.ends now then (acts.Prolong (receipt_text g.receipt) c.timeout, record a { last_act = Beat })
     else ends_drawn (record a { held = gs }) c now g (drawn_chance (failing_at c.outages c.fail_permille now) a.draws)
 
+-- whether a consumer gathers no more messages: it holds a whole batch, or its time to gather or to ask is over
+abbrev pub is_gathered : Actor → ConsumerSettings → ℕ → Bool
+is_gathered a c now = nat_le c.batch (length a.held) || nat_le a.ends now || has_come c.stop now
+
+-- one that holds messages begins to serve them, or wakes after a while to ask for more
+abbrev pub gathers_on : Actor → ConsumerSettings → ℕ → ℕ → Actor
+gathers_on a c now after =
+    if is_gathered a c now then begins_first (record a { last_act = Ended }) c now
+    else record a { wake = Some (max (now + 1) (min a.ends (now + after))); last_act = Gathered }
+
+-- one that wakes while it gathers asks for those that its batch lacks, and waits no longer than it gathers
+abbrev pub asks_for_more : Actor → ConsumerSettings → ℕ → Act × Actor
+asks_for_more a c now =
+    if is_gathered a c now then (acts.Nothing, begins_first (record a { last_act = Ended }) c now)
+    else (acts.Receive (c.batch - length a.held) (min c.wait ((a.ends - now) / 1000)) c.timeout, a)
+
+-- one that wakes and holds messages, by what it did last
+abbrev pub holds_on : LastAct → Actor → ConsumerSettings → ℕ → Got → List Got → Act × Actor
+holds_on Gathered a c now g gs = asks_for_more a c now
+holds_on last a c now g gs = serves_on a c now g gs
+
 -- a consumer that wakes
 abbrev pub consumer_wake : Actor → ConsumerSettings → ℕ → List Got → Act × Actor
 consumer_wake a c now [] = rests a c now a.failed a.done
-consumer_wake a c now (g ∷ gs) = serves_on a c now g gs
+consumer_wake a c now (g ∷ gs) = holds_on a.last_act a c now g gs
 
--- a consumer that got messages serves the first; without any it rests
+-- a consumer that got messages, of which it holds none or some, serves or gathers more; without any it rests
+abbrev pub got_more : List Got → Actor → ConsumerSettings → ℕ → List Got → Act × Actor
+got_more [] a c now [] = idle a c now
+got_more [] a c now (g ∷ gs) =
+    (acts.Nothing, gathers_on (record a { held = g ∷ gs; done = []; failed = []; ends = now + c.gather }) c now 0)
+got_more (h ∷ hs) a c now [] = (acts.Nothing, gathers_on a c now c.idle)
+got_more (h ∷ hs) a c now (g ∷ gs) = (acts.Nothing, gathers_on (record a { held = h ∷ hs ++ g ∷ gs }) c now 0)
+
 abbrev pub consumer_got : Actor → ConsumerSettings → ℕ → List Got → Act × Actor
-consumer_got a c now [] = idle a c now
-consumer_got a c now (g ∷ gs) = (acts.Nothing, begins_first (record a { held = g ∷ gs; done = []; failed = [] }) c now)
+consumer_got a c now gots = got_more a.held a c now gots
 
 -- after a failed service the first of its messages gets another timeout, if it is to have one
 abbrev pub has_failed : Actor → ConsumerSettings → ℕ → List Got → Act × Actor
@@ -298,6 +326,7 @@ has_failed a c now (g ∷ gs) = backs_off a c g gs
 -- after a refused receive a consumer waits; a message served is deleted; after a service comes the next one
 abbrev pub consumer_told : Actor → ConsumerSettings → ℕ → LastAct → Act × Actor
 consumer_told a c now Asked = idle a c now
+consumer_told a c now Gathered = (acts.Nothing, gathers_on a c now c.idle)
 consumer_told a c now (Served receipt) = (acts.Delete (receipt_text receipt), record a { last_act = Ended })
 consumer_told a c now Ended = (acts.Nothing, serving a c now a.held)
 consumer_told a c now Failed = has_failed a c now a.failed

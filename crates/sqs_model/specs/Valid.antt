@@ -151,6 +151,7 @@ pub record IsOutage (o : Outage) : Type 0 where
 pub record IsConsumer (c : ConsumerSettings) : Type 0 where
   pub start : c.start ≤ 2592000000
   pub batch : Between 1 10 c.batch
+  pub gather : c.gather ≤ 300000
   pub wait : c.wait ≤ 20
   pub timeout : MayBeTimeout c.timeout
   pub service : IsDistribution c.service

@@ -99,6 +99,8 @@ pub struct ConsumerSettings {
     pub start: u64,
     /// The number of messages that it asks for.
     pub batch: u64,
+    /// How long it gathers messages, from the first on, if a receive gave fewer.
+    pub gather: u64,
     /// How long a receive waits; 0 for a short poll.
     pub wait: u64,
     /// The visibility timeout that it asks for; none for the queue's.
