@@ -16,7 +16,7 @@ use Rattle.sqs_redrive.specs.declared.answers.Got.{Got}
 use Rattle.sqs_model.specs.Actor.{Actor, Asked, Beat, Ended, Failed, Gathered, Served, LastAct, consumer_told, consumer_wake, got_more, has_come, has_failed, next, next_as, producer_sent, script_wake, wakes_after, woken}
 use Rattle.sqs_model.specs.Draw.{drawn_time}
 use Rattle.sqs_model.proofs.Branches.{either}
-use Rattle.sqs_model.proofs.ConsumerWakes.{IsLate, IsServiceAct, consumer_woke}
+use Rattle.sqs_model.proofs.ConsumerWakes.{IsServiceAct, consumer_woke}
 use Rattle.sim_site.specs.Kept.{HasShortWaits, WaitsShortly, WaitsWithin, most_wait}
 
 script_waits : (a : Actor) (cs : List ScriptCall) → All (λ c. WaitsWithin c.call) cs → WaitsShortly (script_wake a cs).0
@@ -32,8 +32,8 @@ service_waits : (now : ℕ) (b : Actor) (wait : ℕ) (f : Option Forwarding) (ac
 service_waits now b wait f (acts.Receive most waits timeout) h k = omega (arith, h, k)
 service_waits now b wait f act h k = tt
 
-wake_waits : (a : Actor) (c : ConsumerSettings) (now : ℕ) (gs : List Got) → IsLate now a.wake → HasShortWaits (Consumer c) → WaitsShortly (consumer_wake a c now gs).0
-wake_waits a c now gs late h = service_waits now a c.wait c.forward (consumer_wake a c now gs).0 h (consumer_woke now a c gs late).act
+wake_waits : (a : Actor) (c : ConsumerSettings) (now : ℕ) (gs : List Got) → HasShortWaits (Consumer c) → WaitsShortly (consumer_wake a c now gs).0
+wake_waits a c now gs h = service_waits now a c.wait c.forward (consumer_wake a c now gs).0 h (consumer_woke now a c gs).act
 
 got_waits : (held : List Got) (a : Actor) (c : ConsumerSettings) (now : ℕ) (gs : List Got) → WaitsShortly (got_more held a c now gs).0
 got_waits [] a c now [] = tt
@@ -59,7 +59,7 @@ role_waits (Script script) a now answer h = tt
 role_waits (Producer p) a now told_by.Wake h = either (λ (x : Act × Actor). WaitsShortly x.0) (has_come p.stop now) _ _ tt tt
 role_waits (Producer p) a now told_by.Other h = producer_waits a p now
 role_waits (Producer p) a now answer h = tt
-role_waits (Consumer c) a now told_by.Wake h = wake_waits (woken a) c now a.held tt h
+role_waits (Consumer c) a now told_by.Wake h = wake_waits (woken a) c now a.held h
 role_waits (Consumer c) a now (told_by.Got gots) h = got_waits a.held a c now gots
 role_waits (Consumer c) a now told_by.Waiting h = tt
 role_waits (Consumer c) a now told_by.Other h = told_waits a c now a.last_act

@@ -16,7 +16,7 @@ use Rattle.sqs_model.specs.declared.agents.Role.{Role}
 use Rattle.sqs_model.specs.declared.agents.Role.TheVariants.{Consumer, Producer, Script}
 use Rattle.sqs_model.specs.declared.agents.Serving.{Serving}
 use Rattle.sqs_model.specs.declared.agents.Serving.TheVariants.{Each, Once}
-use Rattle.sqs_model.specs.Actor.{Actor, Asked, Beat, Ended, Failed, Gathered, LastAct, Served, act_of, after_failure, asks_for_more, at_stake, begins_next, consumer_told, consumer_wake, ends_drawn, ends_service, ends_well, ends_whole, failing_at, fails, gathers_on, goes_on, got_more, holds_on, is_gathered, woken, has_come, has_failed, next, next_as, producer_sent, producer_wake, rests, script_wake, served_all, serves, serves_on, serving, settles}
+use Rattle.sqs_model.specs.Actor.{Actor, Asked, Beat, Ended, Failed, Gathered, LastAct, Served, act_of, after_failure, at_stake, begins_next, consumer_told, consumer_wake, ends_drawn, ends_service, ends_well, ends_whole, failing_at, fails, gathers_on, goes_on, got_more, holds_on, is_gathered, woken, has_come, has_failed, next, next_as, producer_sent, producer_wake, rests, script_wake, served_all, serves, serves_on, serving, settles}
 use Rattle.sqs_model.specs.Draw.{Draws, drawn_chance}
 use Rattle.sqs_model.proofs.Branches.{either}
 use Rattle.sqs_laws.proofs.Giving.{AreKnown, IsKnown}
@@ -116,16 +116,11 @@ module _ (site arrivals : ℕ) where
 
     gathers_acts : (a : Actor) (c : ConsumerSettings) (after : ℕ) → IsInformed a → Acts (acts.Nothing, gathers_on a c now after)
     gathers_acts a c after h =
-        either (λ (b : Actor). Acts (acts.Nothing, b)) (is_gathered a c now) _ _ (record { informed = with_lists _ h.held h.done h.failed; serves = tt })
+        either (λ (b : Actor). Acts (acts.Nothing, b)) (is_gathered a c now after) _ _ (record { informed = with_lists _ h.held h.done h.failed; serves = tt })
         (record { informed = with_lists _ h.held h.done h.failed; serves = tt })
 
-    more_acts : (a : Actor) (c : ConsumerSettings) → IsInformed a → Acts (asks_for_more a c now)
-    more_acts a c h =
-        either Acts (is_gathered a c now) _ _ (record { informed = with_lists _ h.held h.done h.failed; serves = tt })
-        (record { informed = h; serves = tt })
-
     holds_acts : (last : LastAct) (a : Actor) (c : ConsumerSettings) (g : Got) (gs : List Got) → IsInformed a → AreKnown site arrivals (g ∷ gs) → Acts (holds_on last a c now g gs)
-    holds_acts Gathered a c g gs h k = more_acts a c h
+    holds_acts Gathered a c g gs h k = record { informed = h; serves = tt }
     holds_acts Asked a c g gs h k = serves_on_acts a c g gs h k
     holds_acts (Served r) a c g gs h k = serves_on_acts a c g gs h k
     holds_acts Ended a c g gs h k = serves_on_acts a c g gs h k

@@ -16,11 +16,11 @@ use Rattle.sqs_model.specs.declared.agents.Serving.{Serving}
 use Rattle.sqs_model.specs.declared.agents.Serving.TheVariants.{Each, Once}
 use Rattle.sqs_redrive.specs.declared.answers.Got.{Got}
 use Rattle.sqs_redrive.specs.declared.transfers.Outbound.{Outbound}
-use Rattle.sqs_model.specs.Actor.{Actor, Asked, Beat, Ended, Failed, Gathered, Served, LastAct, begins_first, begins_next, consumer_told, consumer_wake, first_at, gathers_on, got_more, has_come, has_failed, idle, in_service, is_gathered, next, next_as, next_beat, producer_sent, producer_wake, script_wake, service_of, serving, wakes_after, woken}
+use Rattle.sqs_model.specs.Actor.{Actor, Asked, Beat, Ended, Failed, Gathered, Served, LastAct, asks_again, begins_first, begins_next, consumer_told, consumer_wake, first_at, gathers_on, got_more, has_come, has_failed, idle, in_service, is_gathered, next, next_as, next_beat, producer_sent, producer_wake, script_wake, service_of, serving, wakes_after, woken}
 use Rattle.sqs_model.specs.Draw.{Draws, drawn_time}
 use Rattle.sqs_model.specs.Progress.{Ascends, IsSoundActor, IsSoundDistribution, IsSoundForward, IsSoundRole, WakesFor}
 use Rattle.sqs_model.proofs.Counts.{ascends_lower}
-use Rattle.sqs_model.proofs.ConsumerWakes.{IsForwardBy, IsLate, consumer_woke, service_sends}
+use Rattle.sqs_model.proofs.ConsumerWakes.{IsForwardBy, consumer_woke, service_sends}
 use Rattle.sqs_model.proofs.Effects.{time_least}
 use Rattle.sqs_model.proofs.EachDue.{wake_key}
 use Rattle.sqs_model.proofs.Weights.{Weight, actor_weight, weigh_if}
@@ -132,17 +132,13 @@ module _ (now : ℕ) (w : Weight now) where
       (record { number = refl; settings = refl; wakes = tt; wake = late_wake (actor_weight w a) (drawn_time p.gap a.draws).0 a (time_least p.gap a.draws h); sends = tt })
       (same_steps (Producer p) a tt)
 
-  late_weight : (b : Actor) (at : Option ℕ) → IsLate now at → weigh_if (λ n. w.of (wake_key n b)) at ≡ 0
-  late_weight b None h = refl
-  late_weight b (Some at) h = w.past (wake_key at b) (omega arith)
-
   -- consumers
   consumer_wake_steps :
       (gone : ℕ) (c : ConsumerSettings) (a : Actor) (gs : List Got) → IsSoundForward c.forward → IsGone now w gone a
       → Steps now w gone (Consumer c) a (consumer_wake (woken a) c now gs)
   consumer_wake_steps gone c a gs s g =
-      let x = consumer_woke now (woken a) c gs tt in
-      let none : actor_weight w (consumer_wake (woken a) c now gs).1 ≡ 0 = late_weight (consumer_wake (woken a) c now gs).1 (consumer_wake (woken a) c now gs).1.wake x.stays.wake in
+      let x = consumer_woke now (woken a) c gs in
+      let none : actor_weight w (consumer_wake (woken a) c now gs).1 ≡ 0 = ap (weigh_if (λ at. w.of (wake_key at (consumer_wake (woken a) c now gs).1))) x.stays.wake in
       record {
         number = x.stays.number;
         settings = x.stays.settings;
@@ -179,8 +175,8 @@ module _ (now : ℕ) (w : Weight now) where
 
   gathers_steps : (c : ConsumerSettings) (a b : Actor) (after : ℕ) → b.number ≡ a.number → b.settings ≡ a.settings → Steps now w 0 (Consumer c) a (acts.Nothing, gathers_on b c now after)
   gathers_steps c a b after n s =
-      let past : w.of (wake_key (max (now + 1) (min b.ends (now + after))) b) ≡ 0 = w.past (wake_key (max (now + 1) (min b.ends (now + after))) b) (omega arith) in
-      either (λ (x : Actor). Steps now w 0 (Consumer c) a (acts.Nothing, x)) (is_gathered b c now) _ _
+      let past : w.of (wake_key (asks_again b now after) b) ≡ 0 = w.past (wake_key (asks_again b now after) b) (omega arith) in
+      either (λ (x : Actor). Steps now w 0 (Consumer c) a (acts.Nothing, x)) (is_gathered b c now after) _ _
       (first_steps c a (record b { last_act = Ended }) n s)
       (record { number = n; settings = s; wakes = tt; wake = omega arith; sends = tt })
 

@@ -1,5 +1,5 @@
 -- What a consumer does when it wakes, and what that leaves as it was.
-use Rattle.std.specs.Prelude.{Bool, List, None, Option, Some, [], false, true, ℕ, ◌++◌, ◌+◌, ◌∷◌, ◌≡◌, ◌≤◌, ◌<◌, length}
+use Rattle.std.specs.Prelude.{Bool, List, None, Option, Some, [], false, true, ℕ, ◌++◌, ◌+◌, ◌∷◌, ◌≡◌, ◌≤◌}
 use Rattle.std.proofs.Common.{ap, arith, refl}
 use Rattle.sqs_model.specs.declared.acts.Act.{Act}
 use Rattle.sqs_model.specs.declared.acts.Act.TheVariants as acts
@@ -10,23 +10,17 @@ use Rattle.sqs_model.specs.declared.agents.Serving.{Serving}
 use Rattle.sqs_model.specs.declared.agents.Serving.TheVariants.{Each, Once}
 use Rattle.sqs_redrive.specs.declared.answers.Got.{Got}
 use Rattle.sqs_redrive.specs.declared.transfers.Outbound.{Outbound}
-use Rattle.sqs_model.specs.Actor.{Actor, Asked, Beat, Ended, Failed, Gathered, LastAct, Served, after_failure, asks_for_more, at_stake, backoff_at, backoff_drawn, begins_first, consumer_wake, ends_drawn, ends_service, ends_well, ends_whole, failing_at, fails, goes_on, has_come, holds_on, is_gathered, rests, served_all, serves, serves_on, settles}
+use Rattle.sqs_model.specs.Actor.{Actor, Asked, Beat, Ended, Failed, Gathered, LastAct, Served, after_failure, at_stake, backoff_at, backoff_drawn, consumer_wake, ends_drawn, ends_service, ends_well, ends_whole, failing_at, fails, goes_on, has_come, holds_on, rests, served_all, serves, serves_on, settles}
 use Rattle.sqs_model.specs.Draw.{Draws, drawn_chance, drawn_latency}
 use Rattle.sqs_model.proofs.Branches.{either}
-use Rattle.sqs_model.proofs.Effects.{backoff_words, latency_least, latency_words, service_words}
+use Rattle.sqs_model.proofs.Effects.{backoff_words, latency_least, latency_words}
 use Rattle.sqs_model.proofs.Sending.{IsForward, Sends}
 
--- whether a wake, if there is one, comes later
-abbrev pub IsLate : ℕ → Option ℕ → Type 0
-IsLate now None = Unit {0}
-IsLate now (Some at) = now < at
-
--- an actor that keeps its number, its settings and its counts but for transfers and words, which are no fewer; it wakes
--- later, if it does
-pub record Stays (now : ℕ) (b d : Actor) : Type 0 where
+-- an actor that keeps its number, its settings, its wake and its counts but for transfers and words, which are no fewer
+pub record Stays (b d : Actor) : Type 0 where
   pub number : d.number ≡ b.number
   pub settings : d.settings ≡ b.settings
-  pub wake : IsLate now d.wake
+  pub wake : d.wake ≡ b.wake
   pub wakes : d.wakes ≡ b.wakes
   pub polls : d.polls ≡ b.polls
   pub sent : b.sent ≤ d.sent
@@ -64,20 +58,20 @@ module _ (now : ℕ) (b : Actor) (wait : ℕ) (P : Option Outbound → Type 0) (
 
 -- what a consumer does when it wakes
 pub record Woke (now : ℕ) (b : Actor) (wait : ℕ) (f : Option Forwarding) (x : Act × Actor) : Type 0 where
-  pub stays : Stays now b x.1
+  pub stays : Stays b x.1
   pub act : IsServiceAct now b wait f x.0
 
 module _ (now : ℕ) (b : Actor) where
   -- what it holds, when its service ends and what it did last may change
-  held_stays : (d : Actor) (held done failed : List Got) (ends : ℕ) (last_act : LastAct) → Stays now b d → Stays now b (record d { held = held; done = done; failed = failed; ends = ends; last_act = last_act })
+  held_stays : (d : Actor) (held done failed : List Got) (ends : ℕ) (last_act : LastAct) → Stays b d → Stays b (record d { held = held; done = done; failed = failed; ends = ends; last_act = last_act })
   held_stays d held done failed ends last_act s =
       record { number = s.number; settings = s.settings; wake = s.wake; wakes = s.wakes; polls = s.polls; sent = s.sent; words = s.words }
 
-  drawn_stays : (d : Actor) (draws : Draws) → d.draws.taken ≤ draws.taken → Stays now b d → Stays now b (record d { draws = draws })
+  drawn_stays : (d : Actor) (draws : Draws) → d.draws.taken ≤ draws.taken → Stays b d → Stays b (record d { draws = draws })
   drawn_stays d draws more s =
       record { number = s.number; settings = s.settings; wake = s.wake; wakes = s.wakes; polls = s.polls; sent = s.sent; words = omega (arith, s.words, more) }
 
-  pub serves_woke : (wait : ℕ) (d : Actor) (g : Got) (f : Option Forwarding) → Stays now b d → Woke now b wait f (serves d now g f)
+  pub serves_woke : (wait : ℕ) (d : Actor) (g : Got) (f : Option Forwarding) → Stays b d → Woke now b wait f (serves d now g f)
   serves_woke wait d g None s = record { stays = s; act = tt }
   serves_woke wait d g (Some f) s =
       let later : f.latency.least ≤ (drawn_latency f.latency d.draws).0 = latency_least f.latency d.draws in
@@ -99,38 +93,38 @@ module _ (now : ℕ) (b : Actor) where
     abbrev Wakes : Act × Actor → Type 0
     Wakes x = Woke now b c.wait c.forward x
 
-    settles_woke : (d : Actor) (g : Got) (gs : List Got) → Stays now b d → Wakes (settles d c now g gs)
+    settles_woke : (d : Actor) (g : Got) (gs : List Got) → Stays b d → Wakes (settles d c now g gs)
     settles_woke d g gs s = serves_woke c.wait _ g c.forward (held_stays d d.held gs d.failed d.ends (Served g.receipt) s)
 
-    all_woke : (d : Actor) (gs : List Got) → Stays now b d → Wakes (served_all d c now gs)
+    all_woke : (d : Actor) (gs : List Got) → Stays b d → Wakes (served_all d c now gs)
     all_woke d [] s = record { stays = s; act = tt }
     all_woke d (g ∷ gs) s = settles_woke d g gs s
 
-    whole_woke : (serving : Serving) (d : Actor) (g : Got) (gs : List Got) → Stays now b d → Wakes (ends_whole serving d c now g gs)
+    whole_woke : (serving : Serving) (d : Actor) (g : Got) (gs : List Got) → Stays b d → Wakes (ends_whole serving d c now g gs)
     whole_woke Each d g [] s = all_woke d (d.done ++ g ∷ []) s
     whole_woke Each d g (h ∷ hs) s = record { stays = held_stays d d.held (d.done ++ g ∷ []) d.failed d.ends Ended s; act = tt }
     whole_woke (Once each) d g gs s = settles_woke (record d { held = [] }) g gs (held_stays d [] d.done d.failed d.ends d.last_act s)
 
-    well_woke : (whole : Bool) (d : Actor) (g : Got) (gs : List Got) → Stays now b d → Wakes (ends_well whole d c now g gs)
+    well_woke : (whole : Bool) (d : Actor) (g : Got) (gs : List Got) → Stays b d → Wakes (ends_well whole d c now g gs)
     well_woke false d g gs s = serves_woke c.wait _ g c.forward (held_stays d d.held d.done d.failed d.ends (Served g.receipt) s)
     well_woke true d g gs s = whole_woke c.serving d g gs s
 
-    failed_stays : (timeouts : List ℕ) (whole : Bool) (d : Actor) (g : Got) → c.whole ≡ whole → Stays now b d → Stays now b (record (after_failure timeouts c d g) { last_act = Failed })
+    failed_stays : (timeouts : List ℕ) (whole : Bool) (d : Actor) (g : Got) → c.whole ≡ whole → Stays b d → Stays b (record (after_failure timeouts c d g) { last_act = Failed })
     failed_stays [] false d g e s = rw e (held_stays d d.held d.done d.failed d.ends Failed s)
     failed_stays [] true d g e s = rw e (held_stays d [] [] d.failed d.ends Failed s)
     failed_stays (t ∷ ts) false d g e s = rw e (held_stays d d.held [] (d.failed ++ (d.done ++ g ∷ [])) d.ends Failed s)
     failed_stays (t ∷ ts) true d g e s = rw e (held_stays d [] [] (d.failed ++ (d.done ++ g ∷ d.held)) d.ends Failed s)
 
-    ends_woke : (d : Actor) (g : Got) (failed : Bool) → Stays now b d → Wakes (ends_service d c now g failed)
+    ends_woke : (d : Actor) (g : Got) (failed : Bool) → Stays b d → Wakes (ends_service d c now g failed)
     ends_woke d g true s = record { stays = failed_stays c.backoff c.whole d g refl s; act = tt }
     ends_woke d g false s = well_woke c.whole d g d.held s
 
-    drawn_woke : (d : Actor) (g : Got) → Stays now b d → Wakes (ends_drawn d c now g (drawn_chance (failing_at c.outages c.fail_permille now) d.draws))
+    drawn_woke : (d : Actor) (g : Got) → Stays b d → Wakes (ends_drawn d c now g (drawn_chance (failing_at c.outages c.fail_permille now) d.draws))
     drawn_woke d g s =
         let drawn : Bool × Draws = drawn_chance (failing_at c.outages c.fail_permille now) d.draws in
         ends_woke (record d { draws = drawn.1 }) g (fails c (at_stake c.serving c.whole g d.held) drawn.0) (drawn_stays d drawn.1 (omega arith) s)
 
-    rests_woke : (d : Actor) (failed done : List Got) → Stays now b d → Wakes (rests d c now failed done)
+    rests_woke : (d : Actor) (failed done : List Got) → Stays b d → Wakes (rests d c now failed done)
     rests_woke d (g ∷ gs) done s =
         let drawn : ℕ × Draws = backoff_drawn c.jitter (backoff_at c.backoff g.receipt.count) d.draws in
         let words : d.draws.taken ≤ drawn.1.taken = backoff_words c.jitter (backoff_at c.backoff g.receipt.count) d.draws in
@@ -140,42 +134,24 @@ module _ (now : ℕ) (b : Actor) where
         either Wakes (has_come c.stop now) _ _ (record { stays = s; act = tt })
         (record { stays = held_stays d d.held d.done d.failed d.ends Asked s; act = omega arith })
 
-    begun_stays : (d : Actor) → Stays now b d → Stays now b (begins_first d c now)
-    begun_stays d s =
-        record {
-          number = s.number;
-          settings = s.settings;
-          wake = omega arith;
-          wakes = s.wakes;
-          polls = s.polls;
-          sent = s.sent;
-          words = omega (arith, s.words, service_words c.serving (length d.held) c.service d.draws);
-        }
-
-    more_woke : (d : Actor) → Stays now b d → Wakes (asks_for_more d c now)
-    more_woke d s =
-        either Wakes (is_gathered d c now) _ _
-        (record { stays = begun_stays (record d { last_act = Ended }) (held_stays d d.held d.done d.failed d.ends Ended s); act = tt })
-        (record { stays = s; act = omega arith })
-
-    serves_on_woke : (d : Actor) (g : Got) (gs : List Got) → Stays now b d → Wakes (serves_on d c now g gs)
+    serves_on_woke : (d : Actor) (g : Got) (gs : List Got) → Stays b d → Wakes (serves_on d c now g gs)
     serves_on_woke d g gs s =
         either Wakes (goes_on c.heartbeat d.ends now) _ _
         (record { stays = held_stays d d.held d.done d.failed d.ends Beat s; act = tt })
         (drawn_woke (record d { held = gs }) g (held_stays d gs d.done d.failed d.ends d.last_act s))
 
-    holds_woke : (last : LastAct) (d : Actor) (g : Got) (gs : List Got) → Stays now b d → Wakes (holds_on last d c now g gs)
-    holds_woke Gathered d g gs s = more_woke d s
+    holds_woke : (last : LastAct) (d : Actor) (g : Got) (gs : List Got) → Stays b d → Wakes (holds_on last d c now g gs)
+    holds_woke Gathered d g gs s = record { stays = s; act = omega arith }
     holds_woke Asked d g gs s = serves_on_woke d g gs s
     holds_woke (Served r) d g gs s = serves_on_woke d g gs s
     holds_woke Ended d g gs s = serves_on_woke d g gs s
     holds_woke Failed d g gs s = serves_on_woke d g gs s
     holds_woke Beat d g gs s = serves_on_woke d g gs s
 
-    woke_from : (d : Actor) (gs : List Got) → Stays now b d → Wakes (consumer_wake d c now gs)
+    woke_from : (d : Actor) (gs : List Got) → Stays b d → Wakes (consumer_wake d c now gs)
     woke_from d [] s = rests_woke d d.failed d.done s
     woke_from d (g ∷ gs) s = holds_woke d.last_act d g gs s
 
-    pub consumer_woke : (gs : List Got) → IsLate now b.wake → Wakes (consumer_wake b c now gs)
-    consumer_woke gs late =
-        woke_from b gs (record { number = refl; settings = refl; wake = late; wakes = refl; polls = refl; sent = omega arith; words = omega arith })
+    pub consumer_woke : (gs : List Got) → Wakes (consumer_wake b c now gs)
+    consumer_woke gs =
+        woke_from b gs (record { number = refl; settings = refl; wake = refl; wakes = refl; polls = refl; sent = omega arith; words = omega arith })

@@ -65,7 +65,7 @@ module _ (now : ℕ) (a : Actor) where
 
     woke_decides : (gs : List Got) → Decides now a c.forward (consumer_wake (woken a) c now gs)
     woke_decides gs =
-        let x = consumer_woke now (woken a) c gs tt in
+        let x = consumer_woke now (woken a) c gs in
         record {
           number = x.stays.number;
           settings = x.stays.settings;
@@ -86,7 +86,7 @@ module _ (now : ℕ) (a : Actor) where
 
     gathers_decides : (held done failed : List Got) (ends after : ℕ) → Decides now a c.forward (acts.Nothing, gathers_on (record a { held = held; done = done; failed = failed; ends = ends }) c now after)
     gathers_decides held done failed ends after =
-        either (λ b. Decides now a c.forward (acts.Nothing, b)) (is_gathered (record a { held = held; done = done; failed = failed; ends = ends }) c now) _ _
+        either (λ b. Decides now a c.forward (acts.Nothing, b)) (is_gathered (record a { held = held; done = done; failed = failed; ends = ends }) c now after) _ _
         (rests c.forward _ refl refl refl (omega arith) refl (omega (arith, service_words c.serving (length held) c.service a.draws)) _ tt)
         (rests c.forward _ refl refl refl (omega arith) refl (omega arith) _ tt)
 

@@ -41,7 +41,7 @@ use Rattle.sqs_model.specs.Site.{Core, Effect, actor_numbered, is_actor, joined,
 use Rattle.sqs_model.specs.Task.{Task}
 use Rattle.sqs_model.specs.Turns.{TurnsEnd}
 use Rattle.sqs_model.proofs.Branches.{either}
-use Rattle.sqs_model.proofs.ConsumerWakes.{IsLate, consumer_woke}
+use Rattle.sqs_model.proofs.ConsumerWakes.{consumer_woke}
 use Rattle.sqs_model.proofs.Counts.{find_picked}
 use Rattle.sqs_model.proofs.Growth.{Turns, changed_found, next_up}
 
@@ -306,10 +306,10 @@ acts_over more acts.Nothing a f = tt
 acts_over more act a f = f
 
 -- whatever a consumer does when it wakes
-wake_over : (now : ℕ) (c : ConsumerSettings) (a : Actor) (gs : List Got) → IsLate now a.wake → a.settings.role ≡ Consumer c → IsOverAfter (IsOver 2 now) (consumer_wake a c now gs)
-wake_over now c a gs late e =
+wake_over : (now : ℕ) (c : ConsumerSettings) (a : Actor) (gs : List Got) → a.settings.role ≡ Consumer c → IsOverAfter (IsOver 2 now) (consumer_wake a c now gs)
+wake_over now c a gs e =
     let x : Act × Actor = consumer_wake a c now gs in
-    acts_over (IsOver 2 now) x.0 x.1 (λ y w h l. answer_over 0 now c y w (role_left x.1 y l ∙ ap (λ (s : ActorSettings). s.role) (consumer_woke now a c gs late).stays.settings ∙ e) h)
+    acts_over (IsOver 2 now) x.0 x.1 (λ y w h l. answer_over 0 now c y w (role_left x.1 y l ∙ ap (λ (s : ActorSettings). s.role) (consumer_woke now a c gs).stays.settings ∙ e) h)
 
 -- a producer that sends or stops
 sends_over : (now : ℕ) (p : ProducerSettings) (a : Actor) → a.settings.role ≡ Producer p → IsOverAfter (IsOver 2 now) (producer_wake a p now)
@@ -326,7 +326,7 @@ calls_over now s a (c ∷ cs) e = acts_over (IsOver 2 now) (act_of c.call) _ (λ
 three_as : (now : ℕ) (a : Actor) (w : Answer) (r : Role) → a.settings.role ≡ r → IsOver 3 now a w
 three_as now a told_by.Wake (Script s) e = over_by 2 now a told_by.Wake (Script s) e (calls_over now s a (drop a.wakes s) e)
 three_as now a told_by.Wake (Producer p) e = over_by 2 now a told_by.Wake (Producer p) e (sends_over now p a e)
-three_as now a told_by.Wake (Consumer c) e = over_by 2 now a told_by.Wake (Consumer c) e (wake_over now c (woken a) a.held tt e)
+three_as now a told_by.Wake (Consumer c) e = over_by 2 now a told_by.Wake (Consumer c) e (wake_over now c (woken a) a.held e)
 three_as now a (told_by.Got gots) (Script s) e = over_by 2 now a (told_by.Got gots) (Script s) e tt
 three_as now a (told_by.Got gots) (Producer p) e = over_by 2 now a (told_by.Got gots) (Producer p) e tt
 three_as now a (told_by.Got gots) (Consumer c) e = answer_over 1 now c a (told_by.Got gots) e tt

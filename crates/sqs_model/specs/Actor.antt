@@ -281,21 +281,23 @@ serves_on a c now g gs =
     if goes_on c.heartbeat a.ends now then (acts.Prolong (receipt_text g.receipt) c.timeout, record a { last_act = Beat })
     else ends_drawn (record a { held = gs }) c now g (drawn_chance (failing_at c.outages c.fail_permille now) a.draws)
 
--- whether a consumer gathers no more messages: it holds a whole batch, or its time to gather or to ask is over
-abbrev pub is_gathered : Actor → ConsumerSettings → ℕ → Bool
-is_gathered a c now = nat_le c.batch (length a.held) || nat_le a.ends now || has_come c.stop now
+-- when a consumer that gathers messages would ask again, after a while: no later than at the end of its time to gather
+abbrev pub asks_again : Actor → ℕ → ℕ → ℕ
+asks_again a now after = max (now + 1) (min a.ends (now + after))
+
+-- whether it gathers no more: it holds a whole batch, its time is over, or it stops before it would ask again
+abbrev pub is_gathered : Actor → ConsumerSettings → ℕ → ℕ → Bool
+is_gathered a c now after = nat_le c.batch (length a.held) || nat_le a.ends now || has_come c.stop (asks_again a now after)
 
 -- one that holds messages begins to serve them, or wakes after a while to ask for more
 abbrev pub gathers_on : Actor → ConsumerSettings → ℕ → ℕ → Actor
 gathers_on a c now after =
-    if is_gathered a c now then begins_first (record a { last_act = Ended }) c now
-    else record a { wake = Some (max (now + 1) (min a.ends (now + after))); last_act = Gathered }
+    if is_gathered a c now after then begins_first (record a { last_act = Ended }) c now
+    else record a { wake = Some (asks_again a now after); last_act = Gathered }
 
 -- one that wakes while it gathers asks for those that its batch lacks, and waits no longer than it gathers
 abbrev pub asks_for_more : Actor → ConsumerSettings → ℕ → Act × Actor
-asks_for_more a c now =
-    if is_gathered a c now then (acts.Nothing, begins_first (record a { last_act = Ended }) c now)
-    else (acts.Receive (c.batch - length a.held) (min c.wait ((a.ends - now) / 1000)) c.timeout, a)
+asks_for_more a c now = (acts.Receive (c.batch - length a.held) (min c.wait ((a.ends - now) / 1000)) c.timeout, a)
 
 -- one that wakes and holds messages, by what it did last
 abbrev pub holds_on : LastAct → Actor → ConsumerSettings → ℕ → Got → List Got → Act × Actor
