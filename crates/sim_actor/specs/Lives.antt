@@ -20,7 +20,7 @@ use Rattle.sqs_model.specs.declared.agents.ActorSettings.{ActorSettings}
 use Rattle.sqs_model.specs.declared.agents.Role.{Role}
 use Rattle.sqs_model.specs.declared.agents.Role.TheVariants.{Consumer, Producer, Script}
 use Rattle.sqs_model.specs.declared.agents.Serving.{Serving}
-use Rattle.sqs_model.specs.Actor.{Actor, Asked, Beat, Ended, Failed, Served, LastAct, act_of, at_stake, begins, ends_drawn, ends_well, ends_whole, failing_at, fails, first_at, next_beat, service_of, wakes_after}
+use Rattle.sqs_model.specs.Actor.{Actor, Asked, Beat, Ended, Failed, Gathered, Served, LastAct, act_of, at_stake, begins, ends_drawn, ends_well, ends_whole, failing_at, fails, first_at, next_beat, service_of, wakes_after}
 use Rattle.sqs_model.specs.Answers.{most_count}
 use Rattle.sqs_model.specs.Draw.{Draws, drawn_chance, drawn_time}
 use Rattle.sqs_model.specs.Valid.{IsConsumer, IsProducer}
@@ -37,6 +37,7 @@ IsRole (Consumer c) = IsConsumer c
 -- the definitions' word for what a consumer did last
 abbrev pub last_act_of : OwnStage → LastAct
 last_act_of own.Asked = Asked
+last_act_of own.Gathered = Gathered
 last_act_of (own.Served receipt) = Served receipt
 last_act_of own.Ended = Ended
 last_act_of own.Failed = Failed
@@ -115,16 +116,18 @@ act_following follow_ups.Nothing = acts.Nothing
 act_following (follow_ups.Delete receipt) = acts.Delete (receipt_text receipt)
 act_following (follow_ups.Change receipt timeout) = acts.Change (receipt_text receipt) timeout
 
--- what an actor does on a reply and the actor after it are the definition's
+-- what an actor does on a reply and the actor after it are the definition's; nothing is said of it if memory runs out
 abbrev pub FollowsUp : Result FollowUp Refusal → Actor → Act × Actor → Type 0
 FollowsUp (Ok follow_up) new model = model ≡ (act_following follow_up, new)
 FollowsUp (Err refusals.CountLimit) new model = most_count < greatest_count model.1
+FollowsUp (Err refusals.Memory) new model = Unit {0}
 FollowsUp (Err e) new model = ⊥
 
--- by the definition it does nothing, and the actor after it is the definition's
+-- by the definition it does nothing, and the actor after it is the definition's; nothing is said of it if memory runs out
 abbrev pub DoesNothing : Result (Unit {0}) Refusal → Actor → Act × Actor → Type 0
 DoesNothing (Ok u) new model = model ≡ (acts.Nothing, new)
 DoesNothing (Err refusals.CountLimit) new model = most_count < greatest_count model.1
+DoesNothing (Err refusals.Memory) new model = Unit {0}
 DoesNothing (Err e) new model = ⊥
 
 -- the visibility timeout of a message with this receipt and the actor after it are the definition's

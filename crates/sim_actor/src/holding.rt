@@ -1,5 +1,5 @@
 //! The messages that a consumer has.
-ghost use Rattle.std.specs.Prelude.{◌≡◌, ◌↔◌, [], drop, true};
+ghost use Rattle.std.specs.Prelude.{◌≡◌, ◌↔◌, ◌++◌, [], drop, length, true, IfOk};
 ghost use Rattle.std.specs.Option.{option_copied};
 ghost use Rattle.std.specs.Iterator.Runs.{YieldsRefsInOrder};
 ghost use Rattle.std.specs.VecDeque.Iter.{deque_iter_rest, deque_iter_steps};
@@ -7,7 +7,7 @@ ghost use Rattle.sqs_redrive.specs.declared.answers.Got.{Got};
 ghost use Rattle.sim_actor.specs.Holdings.{failed_first, first_of, only_held, served_first, OfFirst, ServesAll, TakesFirst, all_to_change, with_done, with_failed, with_held};
 
 use sqs_redrive::Got;
-use std::alloc::Global;
+use std::alloc::{AllocError, Global};
 use std::collections::VecDeque;
 use std::collections::vec_deque::Iter;
 use std::marker::Model;
@@ -76,6 +76,21 @@ impl Holding {
         ensures runs { YieldsRefsInOrder (deque_iter_steps {X = Got}) deque_iter_rest }
     {
         self.messages.range(self.failed + self.done..)
+    }
+
+    /// How many messages are not served yet.
+    pub fn held_count(&self) -> usize
+        ensures { result ≡ length self.now.held }
+    {
+        self.messages.len() - self.failed - self.done
+    }
+
+    /// Puts messages behind those that are not served yet. It fails if memory runs out.
+    pub fn append(&mut self, messages: Vec<Got>) -> Result<(), AllocError>
+        ensures { IfOk result (λ _. self.new
+            ≡ record self.old { held = self.old.held ++ messages.items }) }
+    {
+        self.messages.append(&mut VecDeque::from(messages))
     }
 
     /// Takes the first message that is not served yet.

@@ -80,7 +80,12 @@ impl Life {
     }
 
     // Begins a service of so many messages.
-    fn begin(&mut self, consumer: &ConsumerSettings, now: u64, messages: u64) -> Result<(), Refusal>
+    pub(crate) fn begin(
+        &mut self,
+        consumer: &ConsumerSettings,
+        now: u64,
+        messages: u64,
+    ) -> Result<(), Refusal>
         requires moment { now ≤ most_count }
         requires messages { messages ≤ most_received }
         requires consumer { IsConsumer consumer.now }
@@ -418,6 +423,9 @@ impl Life {
         let Some(got) = self.holding.first() else {
             return self.rest(consumer, home, now);
         };
+        if let LastAct::Gathered = self.last_act {
+            return Ok(self.ask_for_more(consumer, now));
+        }
         if goes_on(consumer.heartbeat, self.ends, now) {
             let receipt = got.receipt;
             self.last_act = LastAct::Beat;
@@ -429,7 +437,8 @@ impl Life {
         self.end_service(consumer, home, now)
     }
 
-    // Begins to serve the messages received. If there is none, it waits until it receives again.
+    // Begins to serve the messages received, or gathers more. If it holds none, it waits until it
+    // receives again.
     pub(crate) fn consumer_got(
         &mut self,
         consumer: &ConsumerSettings,
@@ -443,13 +452,22 @@ impl Life {
         ensures framed { self.new.number ≡ self.old.number }
     {
         let messages = batch.into_vec();
+        if self.holding.first().is_some() {
+            let after = if messages.is_empty() {
+                consumer.idle
+            } else {
+                0
+            };
+            self.holding.append(messages)?;
+            return self.gather(consumer, now, after);
+        }
         if messages.is_empty() {
             self.idle(consumer, now);
             return Ok(());
         }
-        let count = messages.len() as u64;
         self.holding = Holding::of(messages);
-        self.begin(consumer, now, count)
+        self.ends = now + consumer.gather;
+        self.gather(consumer, now, 0)
     }
 
     // After a refused receive it waits, after a service that ended well it deletes the message, and
@@ -467,6 +485,7 @@ impl Life {
     {
         match self.last_act {
             LastAct::Asked => self.idle(consumer, now),
+            LastAct::Gathered => self.gather(consumer, now, consumer.idle)?,
             LastAct::Served(receipt) => {
                 self.last_act = LastAct::Ended;
                 return Ok(FollowUp::Delete(receipt));
