@@ -295,6 +295,7 @@ fn consumer(alloc: Global, fail_permille: u64, least: u64, greatest: u64) -> Act
         role: Role::Consumer(ConsumerSettings {
             start: 7,
             batch: 2,
+            gather: 0,
             wait: 5,
             timeout: Some(30),
             service: Distribution::Uniform(1, 100),
@@ -494,6 +495,7 @@ fn failing_consumer(rt: &impl Abort, alloc: Global) -> ActorSettings
         role: Role::Consumer(ConsumerSettings {
             start: 7,
             batch: 2,
+            gather: 0,
             wait: 5,
             timeout: Some(30),
             service: Distribution::Uniform(1500, 1500),
@@ -537,6 +539,7 @@ fn plain_consumer(alloc: Global) -> ConsumerSettings
     ConsumerSettings {
         start: 7,
         batch: 2,
+        gather: 0,
         wait: 5,
         timeout: Some(30),
         service: Distribution::Uniform(1, 100),
