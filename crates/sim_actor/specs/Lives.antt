@@ -19,7 +19,8 @@ use Rattle.sqs_model.specs.declared.acts.Answer.TheVariants as told_by
 use Rattle.sqs_model.specs.declared.agents.ActorSettings.{ActorSettings}
 use Rattle.sqs_model.specs.declared.agents.Role.{Role}
 use Rattle.sqs_model.specs.declared.agents.Role.TheVariants.{Consumer, Producer, Script}
-use Rattle.sqs_model.specs.Actor.{Actor, Asked, Beat, Ended, Failed, Served, LastAct, act_of, ends_drawn, ends_well, first_at, next_beat, wakes_after}
+use Rattle.sqs_model.specs.declared.agents.Serving.{Serving}
+use Rattle.sqs_model.specs.Actor.{Actor, Asked, Beat, Ended, Failed, Served, LastAct, act_of, ends_drawn, ends_well, ends_whole, failing_at, first_at, next_beat, wakes_after}
 use Rattle.sqs_model.specs.Answers.{most_count}
 use Rattle.sqs_model.specs.Draw.{Draws, drawn_chance, drawn_time}
 use Rattle.sqs_model.specs.Valid.{IsConsumer, IsProducer}
@@ -126,6 +127,12 @@ DoesNothing (Ok u) new model = model ≡ (acts.Nothing, new)
 DoesNothing (Err refusals.CountLimit) new model = most_count < greatest_count model.1
 DoesNothing (Err e) new model = ⊥
 
+-- the visibility timeout of a message with this receipt and the actor after it are the definition's
+abbrev pub Changes : Receipt → Result ℕ Refusal → Actor → Act × Actor → Type 0
+Changes receipt (Ok timeout) new model = model ≡ (acts.Change (receipt_text receipt) timeout, new)
+Changes receipt (Err refusals.CountLimit) new model = most_count < greatest_count model.1
+Changes receipt (Err e) new model = ⊥
+
 -- the act that makes the first of some calls, and when the next is made
 abbrev pub made_of : List ScriptCall → Option (Act × Option ℕ)
 made_of [] = None
@@ -162,9 +169,13 @@ wakes_by d now a = wakes_after a now (drawn_time d a.draws)
 abbrev pub ends_held : Bool → ConsumerSettings → ℕ → Actor → Got → Act × Actor
 ends_held whole c now a g = ends_well whole a c now g a.held
 
+-- the same of a receive that ends as a whole
+abbrev pub ends_all : Serving → ConsumerSettings → ℕ → Actor → Got → Act × Actor
+ends_all serving c now a g = ends_whole serving a c now g a.held
+
 -- the end of its service, which may fail by chance
 abbrev pub ends_by_chance : ConsumerSettings → ℕ → Actor → Got → Act × Actor
-ends_by_chance c now a g = ends_drawn a c now g (drawn_chance c.fail_permille a.draws)
+ends_by_chance c now a g = ends_drawn a c now g (drawn_chance (failing_at c.outages c.fail_permille now) a.draws)
 
 -- the end of the service of a message, wherever its actor is at home
 abbrev pub EndsAnywhere : MessageId → Receipt → Act → Life → Life → (Actor → Got → Act × Actor) → Type 0

@@ -18,6 +18,7 @@ use Rattle.sqs_redrive.specs.declared.settings.Latency.{Latency}
 use Rattle.sqs_redrive.specs.declared.settings.Policy.{Policy}
 use Rattle.sqs_redrive.specs.declared.settings.QueueSettings.{QueueSettings}
 use Rattle.sqs_redrive.specs.declared.settings.TaskSettings.{TaskSettings}
+use Rattle.sqs_redrive.specs.Received.{most_received}
 use Rattle.sqs_model.specs.Longest.{longest_delay, longest_timeout}
 
 -- whether a number is from the one to the other
@@ -62,7 +63,7 @@ pub record IsQueueSettings (s : QueueSettings) : Type 0 where
   pub visibility : s.visibility ≤ 1000 * longest_timeout
   pub delay : s.delay ≤ 1000 * longest_delay
   pub retention : Between 60000 1209600000 s.retention
-  pub limit : Between 1 120000 s.in_flight_limit
+  pub limit : Between 1 most_received s.in_flight_limit
   pub policy : MayBePolicy s.policy
 
 -- a quantile after another one: its permille is greater, its time no less

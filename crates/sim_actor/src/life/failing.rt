@@ -1,9 +1,11 @@
 //! Whether a service fails.
-ghost use Rattle.std.specs.Prelude.{◌≡◌, option_map};
-ghost use Rattle.sqs_model.specs.Actor.{fails as the_fails, is_down as the_is_down, is_poison as the_is_poison};
+ghost use Rattle.std.specs.Prelude.{◌≡◌, ◌∷◌, List, option_map};
+ghost use Rattle.sqs_model.specs.Actor.{at_stake, failing_at as the_failing_at, fails as the_fails, is_in as the_is_in, is_poison as the_is_poison};
+ghost use Rattle.sqs_redrive.specs.declared.answers.Got.{Got};
 
+use crate::holding::Holding;
 use sqs_message::{Body, Text};
-use sqs_model::{ConsumerSettings, Stretch};
+use sqs_model::{ConsumerSettings, Outage, Serving, Stretch};
 use sqs_redrive::Got;
 
 // Whether a message is one that a consumer fails to serve, by a text that its body contains.
@@ -16,19 +18,46 @@ fn is_poison(part: Option<&Text>, body: &Body) -> bool
     }
 }
 
-// Whether a dependency is down.
-fn is_down(outage: Option<Stretch>, now: u64) -> bool
-    ensures { result ≡ the_is_down outage now }
+// Whether a moment is in a stretch of time, whose end is not in it.
+fn is_in(stretch: Stretch, now: u64) -> bool
+    ensures { result ≡ the_is_in stretch now }
 {
-    match outage {
-        None => false,
-        Some(outage) => outage.from <= now && now < outage.to,
-    }
+    stretch.from <= now && now < stretch.to
 }
 
-/// Whether a service that ends now fails: by chance, by its message, or since a dependency is down.
-pub fn fails(consumer: &ConsumerSettings, now: u64, got: &Got, by_chance: bool) -> bool
-    ensures { result ≡ the_fails consumer.now now got.now by_chance }
+// Of a thousand services that end now, how many fail: as the first outage says that it is in, or
+// else as at any other time.
+fn failing_at(outages: &[Outage], otherwise: u64, now: u64) -> u64
+    ensures { result ≡ the_failing_at outages.now otherwise now }
 {
-    by_chance || is_poison(consumer.fails_on.as_ref(), &got.body) || is_down(consumer.outage, now)
+    for outage in outages {
+        if is_in(outage.stretch, now) {
+            return outage.permille;
+        }
+    }
+    otherwise
+}
+
+/// Of a thousand services of a consumer that end now, how many fail by chance.
+pub fn failing(consumer: &ConsumerSettings, now: u64) -> u64
+    ensures { result ≡ the_failing_at consumer.now.outages consumer.now.fail_permille now }
+{
+    failing_at(consumer.outages.as_slice(), consumer.fail_permille, now)
+}
+
+/// Whether a service fails: by chance, by the first of the messages held, or by any of them if all
+/// are served at once and end as a whole.
+pub fn fails(consumer: &ConsumerSettings, first: &Got, holding: &Holding, by_chance: bool) -> bool
+    ensures { (others : List Got) → holding.now.held ≡ first.now ∷ others → result
+        ≡ the_fails consumer.now
+        (at_stake consumer.now.serving consumer.now.whole first.now others) by_chance }
+{
+    if by_chance {
+        return true;
+    }
+    let part = consumer.fails_on.as_ref();
+    match (consumer.serving, consumer.whole) {
+        (Serving::Once { .. }, true) => holding.held().any(|got| is_poison(part, &got.body)),
+        _ => is_poison(part, &first.body),
+    }
 }

@@ -11,7 +11,7 @@ use sqs_message::{
 };
 use sqs_model::{
     Act, ActorSettings, ConsumerSettings, Distribution, Forwarding, Groups, ProducerSettings, Role,
-    WeightedGroup,
+    Serving, WeightedGroup,
 };
 use sqs_redrive::{Batch, Got, Latency, Load, Outbound};
 use std::alloc::{AllocError, Global};
@@ -298,14 +298,16 @@ fn consumer(alloc: Global, fail_permille: u64, least: u64, greatest: u64) -> Act
             wait: 5,
             timeout: Some(30),
             service: Distribution::Uniform(1, 100),
+            serving: Serving::Each,
             fail_permille,
             idle: 1000,
             forward: Some(Forwarding { to: 3, latency }),
             stop: None,
             fails_on: None,
-            outage: None,
+            outages: Listed::new(Vec::new(alloc)),
             whole: false,
             backoff: Listed::new(Vec::new(alloc)),
+            jitter: false,
             heartbeat: None,
         }),
     }
@@ -495,14 +497,16 @@ fn failing_consumer(rt: &impl Abort, alloc: Global) -> ActorSettings
             wait: 5,
             timeout: Some(30),
             service: Distribution::Uniform(1500, 1500),
+            serving: Serving::Each,
             fail_permille: 0,
             idle: 1000,
             forward: None,
             stop: Some(1509),
             fails_on: Some(text(rt, alloc, "x")),
-            outage: None,
+            outages: Listed::new(Vec::new(alloc)),
             whole: true,
             backoff: Listed::new(timeouts),
+            jitter: false,
             heartbeat: Some(1000),
         }),
     }
