@@ -2,7 +2,7 @@
 ghost use Rattle.std.specs.Prelude.{◌≡◌, ◌↔◌, [], drop, true};
 ghost use Rattle.std.specs.Option.{option_copied};
 ghost use Rattle.std.specs.Iterator.Runs.{YieldsRefsInOrder};
-ghost use Rattle.std_alloc.specs.VecDeque.Iter.{deque_iter_rest, deque_iter_steps};
+ghost use Rattle.std.specs.VecDeque.Iter.{deque_iter_rest, deque_iter_steps};
 ghost use Rattle.sqs_redrive.specs.declared.answers.Got.{Got};
 ghost use Rattle.sim_actor.specs.Holdings.{failed_first, first_of, only_held, served_first, OfFirst, ServesAll, TakesFirst, all_to_change, with_done, with_failed, with_held};
 

@@ -1,5 +1,5 @@
 -- What an actor decides: it keeps its number and settings, its counts only grow, and it sends at most the forward of its role.
-use Rattle.std.specs.Prelude.{List, None, Option, Some, [], drop, nat_lt, ℕ, ◌∷◌, ◌≡◌, ◌≤◌}
+use Rattle.std.specs.Prelude.{List, None, Option, Some, [], drop, length, nat_lt, ℕ, ◌∷◌, ◌≡◌, ◌≤◌}
 use Rattle.std.proofs.Common.{arith, refl, subst, sym}
 use Rattle.sqs_message.specs.declared.calls.ScriptCall.{ScriptCall}
 use Rattle.sqs_redrive.specs.declared.answers.Got.{Got}
@@ -13,11 +13,13 @@ use Rattle.sqs_model.specs.declared.agents.Forwarding.{Forwarding}
 use Rattle.sqs_model.specs.declared.agents.ProducerSettings.{ProducerSettings}
 use Rattle.sqs_model.specs.declared.agents.Role.{Role}
 use Rattle.sqs_model.specs.declared.agents.Role.TheVariants.{Consumer, Producer, Script}
-use Rattle.sqs_model.specs.Actor.{Actor, Asked, Beat, Ended, Failed, Served, LastAct, consumer_got, consumer_told, consumer_wake, has_come, has_failed, next, next_as, producer_sent, producer_wake, script_wake, serving, wakes_after, woken}
+use Rattle.sqs_model.specs.declared.agents.Serving.{Serving}
+use Rattle.sqs_model.specs.declared.agents.Serving.TheVariants.{Each, Once}
+use Rattle.sqs_model.specs.Actor.{Actor, Asked, Beat, Ended, Failed, Served, LastAct, backoff_at, begins_next, consumer_got, consumer_told, consumer_wake, has_come, has_failed, next, next_as, producer_sent, producer_wake, script_wake, serving, wakes_after, woken}
 use Rattle.sqs_model.specs.Draw.{drawn_time}
 use Rattle.sqs_model.proofs.Branches.{either}
 use Rattle.sqs_model.proofs.ConsumerWakes.{IsForwardBy, MayForwardBy, consumer_woke, service_sends}
-use Rattle.sqs_model.proofs.Effects.{group_words, time_words}
+use Rattle.sqs_model.proofs.Effects.{backoff_words, group_words, service_words, time_words}
 use Rattle.sqs_model.proofs.Sending.{Sends, call_sends}
 
 -- where an actor of a role forwards to
@@ -74,17 +76,21 @@ module _ (now : ℕ) (a : Actor) where
           sends = service_sends now (woken a) c.wait (MayForwardBy now a c.forward) tt c.forward _ same_forward x.act;
         }
 
+    next_one_decides : (s : Serving) (gs : List Got) → Decides now a c.forward (acts.Nothing, begins_next s (record a { held = gs }) c now)
+    next_one_decides Each gs = rests c.forward _ refl refl refl (omega arith) refl (omega (arith, time_words c.service a.draws)) _ tt
+    next_one_decides (Once each) gs = rests c.forward _ refl refl refl (omega arith) refl (omega arith) _ tt
+
     serving_decides : (gs : List Got) → Decides now a c.forward (acts.Nothing, serving a c now gs)
     serving_decides [] = rests c.forward _ refl refl refl (omega arith) refl (omega arith) _ tt
-    serving_decides (g ∷ gs) = rests c.forward _ refl refl refl (omega arith) refl (omega (arith, time_words c.service a.draws)) _ tt
+    serving_decides (g ∷ gs) = next_one_decides c.serving (g ∷ gs)
 
     got_decides : (gs : List Got) → Decides now a c.forward (consumer_got a c now gs)
     got_decides [] = rests c.forward _ refl refl refl (omega arith) refl (omega arith) _ tt
-    got_decides (g ∷ gs) = rests c.forward _ refl refl refl (omega arith) refl (omega (arith, time_words c.service a.draws)) _ tt
+    got_decides (g ∷ gs) = rests c.forward _ refl refl refl (omega arith) refl (omega (arith, service_words c.serving (length (g ∷ gs)) c.service a.draws)) _ tt
 
     failed_decides : (gs : List Got) → Decides now a c.forward (has_failed a c now gs)
     failed_decides [] = serving_decides a.held
-    failed_decides (g ∷ gs) = rests c.forward _ refl refl refl (omega arith) refl (omega arith) _ tt
+    failed_decides (g ∷ gs) = rests c.forward _ refl refl refl (omega arith) refl (backoff_words c.jitter (backoff_at c.backoff g.receipt.count) a.draws) _ tt
 
     told_decides : (s : LastAct) → Decides now a c.forward (consumer_told a c now s)
     told_decides Ended = serving_decides a.held

@@ -27,7 +27,7 @@ use Rattle.sqs_redrive.specs.declared.settings.Kind.TheVariants.{Fifo, Standard}
 use Rattle.sqs_redrive.specs.declared.settings.Policy.{Policy}
 use Rattle.sqs_redrive.specs.declared.transfers.Load.{Load}
 use Rattle.sqs_redrive.specs.declared.transfers.Outbound.{Outbound}
-use Rattle.sqs_model.specs.Actor.{Actor, Asked, Beat, Ended, Failed, Served, LastAct, act_of, consumer_got, consumer_told, consumer_wake, has_come, has_failed, next, next_as, producer_wake, script_wake, woken}
+use Rattle.sqs_model.specs.Actor.{Actor, Asked, Beat, Ended, Failed, Served, LastAct, act_of, backoff_at, backoff_drawn, consumer_got, consumer_told, consumer_wake, has_come, has_failed, next, next_as, producer_wake, script_wake, woken}
 use Rattle.std.specs.List.{list_any}
 use Rattle.sim_clock.specs.declared.refusal.Refusal.TheVariants as refusals
 use Rattle.sqs_message.specs.declared.row.RowAnswer.TheVariants as answers
@@ -277,8 +277,9 @@ over_by k now x w r e h = subst (λ q. IsOverAfter (IsOver k now) (next_as q x n
 failed_over : (k now : ℕ) (c : ConsumerSettings) (x : Actor) (gs : List Got) → x.settings.role ≡ Consumer c → IsOverAfter (IsOver (suc k) now) (has_failed x c now gs)
 failed_over k now c x [] e = tt
 failed_over k now c x (g ∷ gs) e =
-    λ y w h l. over_by k now y w (Consumer c) (role_left (record x { failed = gs; last_act = Ended }) y l ∙ e)
-    (consumer_over (IsOver k now) c now y w (subst IsIdle (sym (stage_left (record x { failed = gs; last_act = Ended }) y l)) tt) h)
+    let drawn : ℕ × Draws = backoff_drawn c.jitter (backoff_at c.backoff g.receipt.count) x.draws in
+    let after : Actor = record x { failed = gs; last_act = Ended; draws = drawn.1 } in
+    λ y w h l. over_by k now y w (Consumer c) (role_left after y l ∙ e) (consumer_over (IsOver k now) c now y w (subst IsIdle (sym (stage_left after y l)) tt) h)
 
 told_over : (k now : ℕ) (c : ConsumerSettings) (x : Actor) (s : LastAct) → x.settings.role ≡ Consumer c → IsOverAfter (IsOver (suc k) now) (consumer_told x c now s)
 told_over k now c x Asked e = tt

@@ -30,12 +30,10 @@ fn is_in(stretch: Stretch, now: u64) -> bool
 fn failing_at(outages: &[Outage], otherwise: u64, now: u64) -> u64
     ensures { result ≡ the_failing_at outages.now otherwise now }
 {
-    for outage in outages {
-        if is_in(outage.stretch, now) {
-            return outage.permille;
-        }
+    match outages.iter().find(|outage| is_in(outage.stretch, now)) {
+        None => otherwise,
+        Some(outage) => outage.permille,
     }
-    otherwise
 }
 
 /// Of a thousand services of a consumer that end now, how many fail by chance.
