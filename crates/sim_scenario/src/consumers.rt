@@ -132,27 +132,24 @@ fn forward(
     Ok(Some(Forwarding { to, latency }))
 }
 
-/// A service is of each message by itself.
-const EACH_MESSAGE: bool = false;
+/// Each message of a batch is served by itself, or fails by itself.
+const EACH: bool = false;
 
-/// A service is of a whole batch.
+/// All messages of a batch are served at once.
 const ONCE: bool = true;
 
 /// What one service is of, by its name.
-const SERVINGS: &[(&str, bool)] = &[("each", EACH_MESSAGE), ("once", ONCE)];
+const SERVINGS: &[(&str, bool)] = &[("each", EACH), ("once", ONCE)];
 
 /// What one service is of.
 #[tactic(auto, unfolding(sqs_formats::specs::Actors::serving, sqs_formats::specs::Reading::and_then))]
 fn serving(section: &Section<'_>) -> Result<Serving, ReadError>
     ensures { Gives (λ s. s) result (the_serving (table_of section.now)) }
 {
-    let once = section.optional("batch_service", &OneOf(SERVINGS), EACH_MESSAGE)?;
+    let once = section.optional("batch_service", &OneOf(SERVINGS), EACH)?;
     let each = section.optional("service_each_ms", &Integer(0, 86_400_000), 0)?;
     Ok(if once { Serving::Once { each } } else { Serving::Each })
 }
-
-/// A failed service fails its message alone.
-const EACH: bool = false;
 
 /// A failed service fails its batch as a whole.
 const WHOLE: bool = true;
