@@ -5,10 +5,10 @@ use sqs_model::Outage;
 /// Which services of a consumer fail, and what follows.
 #[derive(Drop)]
 pub struct Failing {
-    /// The text that makes a service fail if the message's body contains it.
-    pub fails_on: Option<Text>,
     /// When services that end fail with another chance.
     pub outages: Listed<Outage>,
+    /// The text that makes a service fail if the message's body contains it.
+    pub fails_on: Option<Text>,
     /// Whether a failed service fails all messages of its receive.
     pub whole: bool,
     /// The visibility timeouts in seconds that follow a failed service, by the receive count.
