@@ -20,7 +20,7 @@ use Rattle.sqs_model.specs.declared.agents.ActorSettings.{ActorSettings}
 use Rattle.sqs_model.specs.declared.agents.Role.{Role}
 use Rattle.sqs_model.specs.declared.agents.Role.TheVariants.{Consumer, Producer, Script}
 use Rattle.sqs_model.specs.declared.agents.Serving.{Serving}
-use Rattle.sqs_model.specs.Actor.{Actor, Asked, Beat, Ended, Failed, Served, LastAct, act_of, ends_drawn, ends_well, ends_whole, failing_at, first_at, next_beat, wakes_after}
+use Rattle.sqs_model.specs.Actor.{Actor, Asked, Beat, Ended, Failed, Served, LastAct, act_of, at_stake, begins, ends_drawn, ends_well, ends_whole, failing_at, fails, first_at, next_beat, service_of, wakes_after}
 use Rattle.sqs_model.specs.Answers.{most_count}
 use Rattle.sqs_model.specs.Draw.{Draws, drawn_chance, drawn_time}
 use Rattle.sqs_model.specs.Valid.{IsConsumer, IsProducer}
@@ -160,6 +160,14 @@ Lived old new P = (s : ActorSettings) → P (lived s old) (lived s new)
 -- a consumer that serves until the service ends, or until its heartbeat before that
 abbrev pub in_service : ConsumerSettings → ℕ → Life → Life
 in_service c now l = record l { wake = Some (max (now + 1) (next_beat c.heartbeat now l.ends)) }
+
+-- a consumer that begins a service of so many messages
+abbrev pub begins_service : ℕ → ConsumerSettings → ℕ → Actor → Actor
+begins_service messages c now a = begins a c now (service_of c.serving messages (drawn_time c.service a.draws))
+
+-- whether a service fails whose first message is this one, with the others that are held
+abbrev pub service_fails : ConsumerSettings → Got → List Got → Bool → Bool
+service_fails c g gs by_chance = fails c (at_stake c.serving c.whole g gs) by_chance
 
 -- an actor that wakes after a time that is drawn
 abbrev pub wakes_by : Distribution → ℕ → Actor → Actor

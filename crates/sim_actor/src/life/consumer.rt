@@ -1,15 +1,15 @@
 //! What a consumer does.
-ghost use Rattle.std.specs.Prelude.{◌≡◌, ◌≤◌, ◌+◌, [], All, Ok, Some, ℕ, false, max};
+ghost use Rattle.std.specs.Prelude.{◌≡◌, ◌≤◌, ◌+◌, [], All, Ok, Some, false, max};
 ghost use Rattle.sqs_message.specs.Ids.{receipt_text};
 ghost use Rattle.sqs_model.specs.declared.agents.ActorSettings.{ActorSettings};
-ghost use Rattle.sqs_model.specs.declared.agents.Serving.TheVariants.{Each, Once};
-ghost use Rattle.sqs_model.specs.Actor.{woken, begins as the_begins, idle as the_idle, serving as the_serving, service_of, serves as the_serves, settles as the_settles, fails_service as the_fails_service, backs_off as the_backs_off, backoff_at as the_backoff_at, goes_on as the_goes_on, has_failed as the_has_failed, rests as the_rests, consumer_wake as the_consumer_wake, consumer_got as the_consumer_got, consumer_told as the_consumer_told};
+ghost use Rattle.sqs_model.specs.declared.agents.Serving.TheVariants.{Each};
+ghost use Rattle.sqs_model.specs.Actor.{woken, idle as the_idle, serving as the_serving, service_of, serves as the_serves, settles as the_settles, fails_service as the_fails_service, backs_off as the_backs_off, backoff_at as the_backoff_at, goes_on as the_goes_on, has_failed as the_has_failed, rests as the_rests, consumer_wake as the_consumer_wake, consumer_got as the_consumer_got, consumer_told as the_consumer_told};
 ghost use Rattle.sqs_model.specs.Answers.{most_count};
 ghost use Rattle.sqs_model.specs.Draw.{drawn_time};
 ghost use Rattle.sqs_model.specs.Longest.{longest_timeout};
 ghost use Rattle.sqs_model.specs.Valid.{IsConsumer, IsLatency, MayBeForward};
 ghost use Rattle.sqs_redrive.specs.Received.{most_received};
-ghost use Rattle.sim_actor.specs.Lives.{Becomes, Changes, Decides, DecidesAt, DoesNothing, EndsFirst, EndsThis, FollowsUp, Lived, lived, EndsAnywhere, ends_all, ends_by_chance, ends_held, in_service, Lives};
+ghost use Rattle.sim_actor.specs.Lives.{Becomes, Changes, Decides, DecidesAt, DoesNothing, EndsFirst, EndsThis, FollowsUp, Lived, lived, EndsAnywhere, begins_service, ends_all, ends_by_chance, ends_held, in_service, Lives};
 
 use super::failing::{failing, fails};
 use super::{LastAct, Life, has_come};
@@ -84,9 +84,8 @@ impl Life {
         requires moment { now ≤ most_count }
         requires messages { messages ≤ most_received }
         requires consumer { IsConsumer consumer.now }
-        ensures life { (s : ActorSettings) → Becomes result (lived s self.new)
-            (the_begins (lived s self.old) consumer.now now (service_of consumer.now.serving
-            messages (drawn_time consumer.now.service self.old.draws))) }
+        ensures life { Lived self.old self.new (λ a b. Becomes result b
+            (begins_service messages consumer.now now a)) }
         ensures framed { self.new.number ≡ self.old.number }
     {
         if self.draws.taken() == MOST_COUNT {
@@ -243,25 +242,6 @@ impl Life {
         }
     }
 
-    // Ends a service of all messages held well, of a consumer whose receives end as a whole.
-    fn end_at_once(
-        &mut self,
-        consumer: &ConsumerSettings,
-        home: u32,
-        now: u64,
-    ) -> Result<Act, Refusal>
-        requires moment { now ≤ most_count }
-        requires consumer { IsConsumer consumer.now }
-        ensures decision { (each : ℕ) → EndsFirst home result self.old self.new
-            (ends_all (Once each) consumer.now now) }
-        ensures framed { self.new.number ≡ self.old.number }
-    {
-        match self.holding.serve_all() {
-            None => Ok(Act::Nothing),
-            Some(got) => self.settle(consumer, home, now, got),
-        }
-    }
-
     // Ends a service of one message well, of a consumer whose receives end as a whole.
     fn end_in_whole(
         &mut self,
@@ -368,7 +348,10 @@ impl Life {
         match (consumer.whole, consumer.serving) {
             (false, _) => self.settle_held(consumer, home, now, id, receipt),
             (true, Serving::Each) => self.end_in_whole(consumer, home, now, id, receipt),
-            (true, Serving::Once { .. }) => self.end_at_once(consumer, home, now),
+            (true, Serving::Once { .. }) => match self.holding.serve_all() {
+                None => Ok(Act::Nothing),
+                Some(got) => self.settle(consumer, home, now, got),
+            },
         }
     }
 

@@ -1,7 +1,9 @@
 //! Whether a service fails.
+ghost use Rattle.std.specs.List.{list_any};
 ghost use Rattle.std.specs.Prelude.{◌≡◌, ◌∷◌, List, option_map};
-ghost use Rattle.sqs_model.specs.Actor.{at_stake, failing_at as the_failing_at, fails as the_fails, is_in as the_is_in, is_poison as the_is_poison};
+ghost use Rattle.sqs_model.specs.Actor.{failing_at as the_failing_at, is_in as the_is_in, is_poison as the_is_poison};
 ghost use Rattle.sqs_redrive.specs.declared.answers.Got.{Got};
+ghost use Rattle.sim_actor.specs.Lives.{service_fails};
 
 use crate::holding::Holding;
 use sqs_message::{Body, Text};
@@ -16,6 +18,14 @@ fn is_poison(part: Option<&Text>, body: &Body) -> bool
         None => false,
         Some(part) => body.contains(part.as_bytes()),
     }
+}
+
+// Whether one of the messages held is such a one.
+fn any_is_poison(part: Option<&Text>, holding: &Holding) -> bool
+    ensures { result ≡ list_any
+        (λ g. the_is_poison (option_map (λ t. t.now) part.entry) g.body) holding.now.held }
+{
+    holding.held().any(|got| is_poison(part, &got.body))
 }
 
 // Whether a moment is in a stretch of time, whose end is not in it.
@@ -46,16 +56,15 @@ pub fn failing(consumer: &ConsumerSettings, now: u64) -> u64
 /// Whether a service fails: by chance, by the first of the messages held, or by any of them if all
 /// are served at once and end as a whole.
 pub fn fails(consumer: &ConsumerSettings, first: &Got, holding: &Holding, by_chance: bool) -> bool
-    ensures { (others : List Got) → holding.now.held ≡ first.now ∷ others → result
-        ≡ the_fails consumer.now
-        (at_stake consumer.now.serving consumer.now.whole first.now others) by_chance }
+    ensures { (others : List Got) → holding.now.held ≡ first.now ∷ others
+        → result ≡ service_fails consumer.now first.now others by_chance }
 {
     if by_chance {
         return true;
     }
     let part = consumer.fails_on.as_ref();
     match (consumer.serving, consumer.whole) {
-        (Serving::Once { .. }, true) => holding.held().any(|got| is_poison(part, &got.body)),
+        (Serving::Once { .. }, true) => any_is_poison(part, holding),
         _ => is_poison(part, &first.body),
     }
 }
