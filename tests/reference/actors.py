@@ -139,15 +139,22 @@ class Consumer(Actor):
         if messages:
             self.batch = [Held(home, message) for message in messages]
             self.unserved = list(self.batch)
-            self.serve_next(home)
+            self.begin_service(home)
         else:
             self.next_wake = home.now + self.settings.idle
 
+    def begin_service(self, home: Home) -> None:
+        """Of the next message, or of the whole batch if it is served at once."""
+        each_ms = self.settings.each_ms
+        time = self.settings.service.drawn(self.draws)
+        self.service_end = home.now + time + (len(self.batch) * each_ms if each_ms is not None else 0)
+        self.wake_in_service(home)
+
     def serve_next(self, home: Home) -> None:
-        """Begins the next service, or asks 1 ms later."""
-        if self.unserved:
-            self.service_end = home.now + self.settings.service.drawn(self.draws)
-            self.wake_in_service(home)
+        """Begins the next service. If its message was served with those before it, 1 ms later it is decided how that
+        ended. Without a message it asks 1 ms later."""
+        if self.unserved and self.settings.each_ms is None:
+            self.begin_service(home)
         else:
             self.next_wake = home.now + 1
 
@@ -163,9 +170,12 @@ class Consumer(Actor):
 
     def end_service(self, home: Home) -> None:
         settings, served = self.settings, self.unserved.pop(0)
-        fails_by_chance = self.draws.chance(settings.fail_permille)
-        is_poison = settings.fails_on is not None and settings.fails_on in served.body
-        self.has_failed = fails_by_chance or is_poison or home.now in settings.outage
+        together = [served]
+        if settings.is_whole and settings.each_ms is not None:
+            together, self.unserved = [served, *self.unserved], []
+        fails_by_chance = self.draws.chance(settings.fail_permille_at(home.now))
+        is_poison = settings.fails_on is not None and any(settings.fails_on in held.body for held in together)
+        self.has_failed = fails_by_chance or is_poison
         if self.has_failed:
             home.row(self.agent, "fail", "ok", served.id, served.receipt)
         if settings.is_whole:
@@ -198,7 +208,10 @@ class Consumer(Actor):
                 self.forward(home, held, self.settings.forward)
             home.delete(self.agent, held.receipt)
         elif backoff_s:
-            home.change(self.agent, held.receipt, backoff_s[min(held.receives, len(backoff_s)) - 1])
+            timeout_s = backoff_s[min(held.receives, len(backoff_s)) - 1]
+            if self.settings.has_jitter:
+                timeout_s = self.draws.uniform(0, timeout_s)
+            home.change(self.agent, held.receipt, timeout_s)
 
     def forward(self, home: Home, held: Held, forward: Forwarding) -> None:
         time = forward.latency.drawn(self.draws)
