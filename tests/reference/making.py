@@ -190,7 +190,8 @@ class Maker:
 
     def new_keys(self, start: int) -> dict[str, object]:
         """What version 3 has besides."""
-        return {"stop_ms": self.rarely(0.3, [self.moment(start)]),
+        return {"gather_ms": self.rarely(0.4, [0, 1, 1, 50, 1000, 5000, 300_000]),
+                "stop_ms": self.rarely(0.3, [self.moment(start)]),
                 "fails_on": self.rarely(0.4, ["1", "a", "b", "{", "x,", "abc", "hi"]), **self.outages(),
                 "batch_fails": self.rarely(0.5, ["each", "whole", "whole"]), **self.backoff(), **self.serving(),
                 "copies": self.rarely(0.3, [1, 2, 3])}

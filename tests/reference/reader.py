@@ -22,7 +22,7 @@ HEAD = ["name", "kind", "queue"]
 QUEUE_NUMBERS = {"visibility_s": (0, 43_200, 30), "delay_s": (0, 900, 0), "retention_s": (60, 1_209_600, 345_600),
                  "in_flight": (1, 120_000, 120_000)}
 # The keys that each consumer of version 3 may have besides.
-NEW_CONSUMER_KEYS = ["stop_ms", "batch_service", "fails_on", "batch_fails", "backoff_s", "copies"]
+NEW_CONSUMER_KEYS = ["gather_ms", "stop_ms", "batch_service", "fails_on", "batch_fails", "backoff_s", "copies"]
 
 
 def script_names(source: bytes) -> list[str]:
@@ -224,11 +224,12 @@ class Reader:
         table.only([*HEAD, "start_ms", "batch", "wait_s", "timeout_s", *self.time_keys(table, "service"),
                     "fail_permille", "idle_ms", "forward", *(self.latency_keys() if table.has("forward") else []),
                     *(new_consumer_keys(table) if self.version == 3 else [])])
+        start, batch = table.optional("start_ms", integer(0, MOST_TIME), 0), table.optional("batch", integer(1, 10), 1)
+        gather = table.optional("gather_ms", integer(0, 300_000), 0)
         return ConsumerSettings(
-            table.optional("start_ms", integer(0, MOST_TIME), 0), table.optional("batch", integer(1, 10), 1),
-            table.optional("wait_s", integer(0, 20), 0), table.maybe("timeout_s", integer(0, 43_200)),
+            start, batch, table.optional("wait_s", integer(0, 20), 0), table.maybe("timeout_s", integer(0, 43_200)),
             self.time(table, "service"), time_of_each(table), table.optional("fail_permille", integer(0, 1_000), 0),
-            table.optional("idle_ms", integer(1, MOST_DAY), 1_000), self.forwarding(table, home))
+            table.optional("idle_ms", integer(1, MOST_DAY), 1_000), self.forwarding(table, home), gather)
 
     def forwarding(self, table: Table, home: int) -> Forwarding | None:
         if not table.has("forward"):

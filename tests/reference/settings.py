@@ -137,6 +137,7 @@ class ConsumerSettings:
     fail_permille: int
     idle: int
     forward: Forwarding | None
+    gather: int = 0
     stop: int | None = None
     fails_on: str | None = None
     outages: list[Outage] = field(default_factory=list)

@@ -174,7 +174,8 @@ consumer_reads o home t r e =
     let known = parts _ _ _ e in
     let start = parts _ _ _ known.2 in
     let batch = parts _ _ _ start.2 in
-    let wait = parts _ _ _ batch.2 in
+    let gather = parts _ _ _ batch.2 in
+    let wait = parts _ _ _ gather.2 in
     let timeout = parts _ _ _ wait.2 in
     let service = parts _ _ _ timeout.2 in
     let serving = parts _ _ _ service.2 in
@@ -190,6 +191,7 @@ consumer_reads o home t r e =
       record {
         start = (optional_within 0 2592000000 0 t (codes "start_ms") start.0 (lit≤ tt, lit≤ tt) start.1).1;
         batch = optional_within 1 10 1 t (codes "batch") batch.0 (lit≤ tt, lit≤ tt) batch.1;
+        gather = (optional_within 0 300000 0 t (codes "gather_ms") gather.0 (lit≤ tt, lit≤ tt) gather.1).1;
         wait = (optional_within 0 20 0 t (codes "wait_s") wait.0 (lit≤ tt, lit≤ tt) wait.1).1;
         timeout = maybe_within MayBeTimeout longest_timeout t (codes "timeout_s") timeout.0 tt (λ n h. h) timeout.1;
         service = service_reads t service.0 service.1;

@@ -53,6 +53,7 @@ fn newer_consumer_keys(version: u64) -> &'static [&'static str]
 {
     if version >= 3 {
         &[
+            "gather_ms",
             "stop_ms",
             "batch_service",
             "fails_on",
@@ -200,6 +201,7 @@ pub(crate) fn consumer(
     known_consumer_keys(outline.version(), section)?;
     let start = section.optional("start_ms", &Integer(0, 2_592_000_000), 0)?;
     let batch = section.optional("batch", &Integer(1, 10), 1)?;
+    let gather = section.optional("gather_ms", &Integer(0, 300_000), 0)?;
     let wait = section.optional("wait_s", &Integer(0, 20), 0)?;
     let timeout = section.maybe("timeout_s", &Integer(0, 43_200))?;
     let service = time("service", "service_min_ms", "service_max_ms", section)?;
@@ -212,6 +214,7 @@ pub(crate) fn consumer(
     Ok(Role::Consumer(ConsumerSettings {
         start,
         batch,
+        gather,
         wait,
         timeout,
         service,

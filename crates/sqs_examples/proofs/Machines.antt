@@ -54,6 +54,7 @@ consumer home start to =
           (record {
             start = start;
             batch = 1;
+            gather = 0;
             wait = 0;
             timeout = None;
             service = Uniform 14 14;
@@ -190,6 +191,7 @@ relay home start wait to =
           (record {
             start = start;
             batch = 1;
+            gather = 0;
             wait = wait;
             timeout = None;
             service = Uniform 100 100;

@@ -201,7 +201,7 @@ service_keys by_quantiles = time_keys by_quantiles (codes "service") (codes "ser
 -- the keys that consumers have from version 3 on
 abbrev pub newer_consumer_keys : ℕ → List (List ℕ)
 newer_consumer_keys version =
-    if nat_le 3 version then codes "stop_ms" ∷ codes "batch_service" ∷ codes "fails_on" ∷ codes "batch_fails" ∷ codes "backoff_s" ∷ codes "copies" ∷ [] else []
+    if nat_le 3 version then codes "gather_ms" ∷ codes "stop_ms" ∷ codes "batch_service" ∷ codes "fails_on" ∷ codes "batch_fails" ∷ codes "backoff_s" ∷ codes "copies" ∷ [] else []
 
 -- a time for each message goes with what one service is of; only a consumer that does not say it may have heartbeats
 abbrev pub serving_keys : ℕ → Bool → List (List ℕ)
@@ -270,6 +270,7 @@ consuming o home t = do
   known ← only (all_consumer_keys o.version t) t
   start ← optional 0 (integer 0 2592000000) t (codes "start_ms")
   batch ← optional 1 (integer 1 10) t (codes "batch")
+  gather ← optional 0 (integer 0 300000) t (codes "gather_ms")
   wait ← optional 0 (integer 0 20) t (codes "wait_s")
   timeout ← maybe (integer 0 43200) t (codes "timeout_s")
   service ← service t
@@ -282,6 +283,7 @@ consuming o home t = do
   Ok (Consumer (record {
     start = start;
     batch = batch;
+    gather = gather;
     wait = wait;
     timeout = timeout;
     service = service;
