@@ -16,7 +16,7 @@ use Rattle.sqs_model.specs.declared.agents.Role.{Role}
 use Rattle.sqs_model.specs.declared.agents.Role.TheVariants.{Consumer, Producer, Script}
 use Rattle.sqs_model.specs.declared.agents.Serving.{Serving}
 use Rattle.sqs_model.specs.declared.agents.Serving.TheVariants.{Each, Once}
-use Rattle.sqs_model.specs.Actor.{Actor, Asked, Beat, Ended, Failed, Gathered, LastAct, Served, act_of, after_failure, at_stake, begins_next, consumer_told, consumer_wake, ends_drawn, ends_service, ends_well, ends_whole, failing_at, fails, gathers_on, goes_on, got_more, holds_on, is_gathered, woken, has_come, has_failed, next, next_as, producer_sent, producer_wake, rests, script_wake, served_all, serves, serves_on, serving, settles}
+use Rattle.sqs_model.specs.Actor.{Actor, Asked, Beat, Ended, Failed, Gathered, LastAct, Served, act_of, after_failure, at_stake, begins_next, consumer_told, consumer_wake, ends_drawn, ends_service, ends_well, ends_whole, failing_at, fails, gathers_on, goes_on, got_more, is_gathered, is_gathering, woken, has_come, has_failed, next, next_as, producer_sent, producer_wake, rests, script_wake, served_all, serves, serves_on, serving, settles}
 use Rattle.sqs_model.specs.Draw.{Draws, drawn_chance}
 use Rattle.sqs_model.proofs.Branches.{either}
 use Rattle.sqs_laws.proofs.Giving.{AreKnown, IsKnown}
@@ -119,17 +119,9 @@ module _ (site arrivals : ℕ) where
         either (λ (b : Actor). Acts (acts.Nothing, b)) (is_gathered a c now after) _ _ (record { informed = with_lists _ h.held h.done h.failed; serves = tt })
         (record { informed = with_lists _ h.held h.done h.failed; serves = tt })
 
-    holds_acts : (last : LastAct) (a : Actor) (c : ConsumerSettings) (g : Got) (gs : List Got) → IsInformed a → AreKnown site arrivals (g ∷ gs) → Acts (holds_on last a c now g gs)
-    holds_acts Gathered a c g gs h k = record { informed = h; serves = tt }
-    holds_acts Asked a c g gs h k = serves_on_acts a c g gs h k
-    holds_acts (Served r) a c g gs h k = serves_on_acts a c g gs h k
-    holds_acts Ended a c g gs h k = serves_on_acts a c g gs h k
-    holds_acts Failed a c g gs h k = serves_on_acts a c g gs h k
-    holds_acts Beat a c g gs h k = serves_on_acts a c g gs h k
-
     wake_acts : (a : Actor) (c : ConsumerSettings) (gs : List Got) → IsInformed a → AreKnown site arrivals gs → Acts (consumer_wake a c now gs)
     wake_acts a c [] h k = rests_acts a c a.failed a.done h h.failed h.done
-    wake_acts a c (g ∷ gs) h k = holds_acts a.last_act a c g gs h k
+    wake_acts a c (g ∷ gs) h k = either Acts (is_gathering a.last_act) _ _ (record { informed = h; serves = tt }) (serves_on_acts a c g gs h k)
 
     next_one_acts : (s : Serving) (a : Actor) (c : ConsumerSettings) (gs : List Got) → IsInformed a → AreKnown site arrivals gs → Acts (acts.Nothing, begins_next s (record a { held = gs }) c now)
     next_one_acts Each a c gs h k = record { informed = with_lists _ k h.done h.failed; serves = tt }

@@ -10,7 +10,7 @@ use Rattle.sqs_model.specs.declared.agents.Serving.{Serving}
 use Rattle.sqs_model.specs.declared.agents.Serving.TheVariants.{Each, Once}
 use Rattle.sqs_redrive.specs.declared.answers.Got.{Got}
 use Rattle.sqs_redrive.specs.declared.transfers.Outbound.{Outbound}
-use Rattle.sqs_model.specs.Actor.{Actor, Asked, Beat, Ended, Failed, Gathered, LastAct, Served, after_failure, at_stake, backoff_at, backoff_drawn, consumer_wake, ends_drawn, ends_service, ends_well, ends_whole, failing_at, fails, goes_on, has_come, holds_on, rests, served_all, serves, serves_on, settles}
+use Rattle.sqs_model.specs.Actor.{Actor, Asked, Beat, Ended, Failed, LastAct, Served, after_failure, at_stake, backoff_at, backoff_drawn, consumer_wake, ends_drawn, ends_service, ends_well, ends_whole, failing_at, fails, goes_on, has_come, is_gathering, rests, served_all, serves, serves_on, settles}
 use Rattle.sqs_model.specs.Draw.{Draws, drawn_chance, drawn_latency}
 use Rattle.sqs_model.proofs.Branches.{either}
 use Rattle.sqs_model.proofs.Effects.{backoff_words, latency_least, latency_words}
@@ -140,17 +140,9 @@ module _ (now : ℕ) (b : Actor) where
         (record { stays = held_stays d d.held d.done d.failed d.ends Beat s; act = tt })
         (drawn_woke (record d { held = gs }) g (held_stays d gs d.done d.failed d.ends d.last_act s))
 
-    holds_woke : (last : LastAct) (d : Actor) (g : Got) (gs : List Got) → Stays b d → Wakes (holds_on last d c now g gs)
-    holds_woke Gathered d g gs s = record { stays = s; act = omega arith }
-    holds_woke Asked d g gs s = serves_on_woke d g gs s
-    holds_woke (Served r) d g gs s = serves_on_woke d g gs s
-    holds_woke Ended d g gs s = serves_on_woke d g gs s
-    holds_woke Failed d g gs s = serves_on_woke d g gs s
-    holds_woke Beat d g gs s = serves_on_woke d g gs s
-
     woke_from : (d : Actor) (gs : List Got) → Stays b d → Wakes (consumer_wake d c now gs)
     woke_from d [] s = rests_woke d d.failed d.done s
-    woke_from d (g ∷ gs) s = holds_woke d.last_act d g gs s
+    woke_from d (g ∷ gs) s = either Wakes (is_gathering d.last_act) _ _ (record { stays = s; act = omega arith }) (serves_on_woke d g gs s)
 
     pub consumer_woke : (gs : List Got) → Wakes (consumer_wake b c now gs)
     consumer_woke gs =

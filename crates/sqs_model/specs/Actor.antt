@@ -299,15 +299,15 @@ gathers_on a c now after =
 abbrev pub asks_for_more : Actor → ConsumerSettings → ℕ → Act × Actor
 asks_for_more a c now = (acts.Receive (c.batch - length a.held) (min c.wait ((a.ends - now) / 1000)) c.timeout, a)
 
--- one that wakes and holds messages, by what it did last
-abbrev pub holds_on : LastAct → Actor → ConsumerSettings → ℕ → Got → List Got → Act × Actor
-holds_on Gathered a c now g gs = asks_for_more a c now
-holds_on last a c now g gs = serves_on a c now g gs
+-- whether a consumer gathers messages, by what it did last
+abbrev pub is_gathering : LastAct → Bool
+is_gathering Gathered = true
+is_gathering last = false
 
 -- a consumer that wakes
 abbrev pub consumer_wake : Actor → ConsumerSettings → ℕ → List Got → Act × Actor
 consumer_wake a c now [] = rests a c now a.failed a.done
-consumer_wake a c now (g ∷ gs) = holds_on a.last_act a c now g gs
+consumer_wake a c now (g ∷ gs) = if is_gathering a.last_act then asks_for_more a c now else serves_on a c now g gs
 
 -- a consumer that got messages, of which it holds none or some, serves or gathers more; without any it rests
 abbrev pub got_more : List Got → Actor → ConsumerSettings → ℕ → List Got → Act × Actor

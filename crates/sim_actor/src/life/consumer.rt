@@ -12,6 +12,7 @@ ghost use Rattle.sqs_redrive.specs.Received.{most_received};
 ghost use Rattle.sim_actor.specs.Lives.{Becomes, Changes, Decides, DecidesAt, DoesNothing, EndsFirst, EndsThis, FollowsUp, Lived, lived, EndsAnywhere, begins_service, ends_all, ends_by_chance, ends_held, in_service, Lives};
 
 use super::failing::{failing, fails};
+use super::gathering::is_gathering;
 use super::{LastAct, Life, has_come};
 use crate::holding::Holding;
 use crate::replies::FollowUp;
@@ -423,7 +424,7 @@ impl Life {
         let Some(got) = self.holding.first() else {
             return self.rest(consumer, home, now);
         };
-        if let LastAct::Gathered = self.last_act {
+        if is_gathering(self.last_act) {
             return Ok(self.ask_for_more(consumer, now));
         }
         if goes_on(consumer.heartbeat, self.ends, now) {

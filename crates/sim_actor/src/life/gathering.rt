@@ -1,10 +1,10 @@
 //! How a consumer gathers messages before it serves them.
 ghost use Rattle.std.specs.Prelude.{◌≡◌, ◌≤◌};
 ghost use Rattle.sqs_model.specs.declared.agents.ActorSettings.{ActorSettings};
-ghost use Rattle.sqs_model.specs.Actor.{asks_again as the_asks_again, asks_for_more as the_asks_for_more, gathers_on, is_gathered as the_is_gathered};
+ghost use Rattle.sqs_model.specs.Actor.{asks_again as the_asks_again, asks_for_more as the_asks_for_more, gathers_on, is_gathered as the_is_gathered, is_gathering as the_is_gathering};
 ghost use Rattle.sqs_model.specs.Answers.{most_count};
 ghost use Rattle.sqs_model.specs.Valid.{IsConsumer};
-ghost use Rattle.sim_actor.specs.Lives.{DoesNothing, Lives, lived};
+ghost use Rattle.sim_actor.specs.Lives.{DoesNothing, Lives, last_act_of, lived};
 
 use super::{LastAct, Life, has_come};
 use sim_clock::Refusal;
@@ -12,6 +12,17 @@ use sqs_model::{Act, ConsumerSettings};
 
 /// The most messages that one service may be of: no queue has more in flight.
 const MOST_SERVED: u64 = 120_000;
+
+// Whether a consumer gathers messages, by its last act.
+pub(crate) fn is_gathering(last_act: LastAct) -> bool
+    ensures { result ≡ the_is_gathering (last_act_of last_act) }
+{
+    match last_act {
+        LastAct::Gathered => true,
+        LastAct::Asked | LastAct::Served(_) | LastAct::Ended | LastAct::Failed | LastAct::Beat =>
+            false,
+    }
+}
 
 impl Life {
     // When a consumer that gathers messages would ask again, after a while.

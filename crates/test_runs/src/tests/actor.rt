@@ -643,6 +643,57 @@ fn one_body_fails_a_whole_batch_with_timeouts_drawn(rt: HostRuntime) {
     consume_by(&rt, rt.alloc(), consumer, life, 4);
 }
 
+#[test]
+fn consumer_gathers_until_its_time_is_over(rt: HostRuntime) {
+    // It gathers for 2,500 ms from 7 on. The first word of agent 0 under seed 0 gives a service of
+    // 68 ms.
+    let mut consumer = plain_consumer(rt.alloc());
+    consumer.batch = 5;
+    consumer.gather = 2500;
+    let life: &[Step] = &[
+        (7, Told::Wake, "receive 5 5 Some(30)", None),
+        (7, Told::Two, "nothing", Some(8)),
+        (8, Told::Wake, "receive 3 2 Some(30)", None),
+        (8, Told::Waiting, "nothing", None),
+        (2008, Told::Empty, "nothing", Some(2507)),
+        (2507, Told::Wake, "receive 3 0 Some(30)", None),
+        (2507, Told::Other, "nothing", Some(2575)),
+        (2575, Told::Wake, "serve r-2-4-1 false", None),
+    ];
+    consume_by(&rt, rt.alloc(), consumer, life, 4);
+}
+
+#[test]
+fn a_batch_that_was_gathered_is_served_once_it_is_whole(rt: HostRuntime) {
+    // The first word of agent 0 under seed 0 gives a service of 68 ms, and 10 more for each of four
+    // messages.
+    let mut consumer = plain_consumer(rt.alloc());
+    consumer.batch = 4;
+    consumer.gather = 2500;
+    consumer.serving = Serving::Once { each: 10 };
+    let life: &[Step] = &[
+        (7, Told::Wake, "receive 4 5 Some(30)", None),
+        (7, Told::Two, "nothing", Some(8)),
+        (8, Told::Wake, "receive 2 2 Some(30)", None),
+        (8, Told::Two, "nothing", Some(116)),
+        (116, Told::Wake, "serve r-2-4-1 false", None),
+    ];
+    consume_by(&rt, rt.alloc(), consumer, life, 3);
+}
+
+#[test]
+fn consumer_that_may_not_ask_again_gathers_no_more(rt: HostRuntime) {
+    let mut consumer = plain_consumer(rt.alloc());
+    consumer.batch = 5;
+    consumer.gather = 2500;
+    consumer.stop = Some(8);
+    let life: &[Step] = &[
+        (7, Told::Wake, "receive 5 5 Some(30)", None),
+        (7, Told::Two, "nothing", Some(75)),
+    ];
+    consume_by(&rt, rt.alloc(), consumer, life, 1);
+}
+
 // Ends a service at a moment, of a consumer with two outages: from 100 to 200 no service fails,
 // from 150 to 300 each one. At any other time `otherwise` of a thousand fail.
 fn serve_in_outages(
