@@ -7,4 +7,4 @@ use Rattle.sim_actor.proofs.life.failing.any_is_poison.Goals as goal
 
 pub returns : goal.returns
 returns c =
-    any_from_yields_List (λ g. is_poison (option_map (λ t. t.now) c.args.part.entry) g.body) _ _ _ c.any.ensures.ran (YieldsList-from_deque _ c.held.ensures.list) (λ x r q k. search (rules, tests))
+    any_from_yields_List (λ g. is_poison (option_map (λ t. t.now) c.args.part) g.body) _ _ _ c.any.ensures.ran (YieldsList-from_deque _ c.held.ensures.list) (λ x r q k. search (rules, tests))

@@ -1,4 +1,4 @@
-use Rattle.std.proofs.Common.{List, None, Option, Some, [], ap, refl, rules, sym, tests, ℕ, ◌∙◌, ◌∷◌, ◌≡◌}
+use Rattle.std.proofs.Common.{List, None, Option, Some, [], ap, refl, rules, tests, ℕ, ◌∙◌, ◌∷◌, ◌≡◌}
 use Rattle.std.proofs.lemmas.Iterator.{YieldsList-from_slice}
 use Rattle.std.proofs.lemmas.Iterator.Search.{find_from_yields_List}
 use Rattle.std.specs.List.{find}
@@ -8,7 +8,7 @@ use Rattle.sqs_model.specs.declared.agents.Outage.{Outage}
 use Rattle.sim_actor.proofs.life.failing.failing_at.Goals as goal
 
 -- how many fail in an outage that was found, or in none
-permille_of : ℕ → Option Outage → ℕ
+abbrev permille_of : ℕ → Option Outage → ℕ
 permille_of otherwise None = otherwise
 permille_of otherwise (Some o) = o.permille
 
