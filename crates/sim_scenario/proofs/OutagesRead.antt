@@ -1,6 +1,7 @@
 -- Outages of a text are in range.
-use Rattle.std.proofs.Common.{◌≡◌, ℕ, ◌≤◌, Bool, true, false, codes, List, [], ◌∷◌, Ok, lit≤}
+use Rattle.std.proofs.Common.{◌≡◌, ℕ, ◌+◌, ◌<◌, ◌≤◌, Bool, true, false, codes, List, [], ◌∷◌, ◌++◌, Ok, get_or, length, lit≤, sym, take}
 use Rattle.std.specs.Prelude.{All}
+use Rattle.std.proofs.lemmas.List.{map-append, take_more}
 use Rattle.std.proofs.lemmas.List.Elements.{All-cons, All-head, All-nil, All-tail}
 use Rattle.sqs_model.specs.declared.agents.Outage.{Outage}
 use Rattle.sqs_model.specs.declared.agents.Stretch.{Stretch}
@@ -56,3 +57,7 @@ outages_in_range t os e =
     let most = (optional_within 0 1000 1000 t (codes "fails_permille") permille.0 (lit≤ tt, lit≤ tt) permille.1).1 in
     let all = stretches_in_range (has t (codes "fails_between_ms")) (has t (codes "fails_from_ms")) t read.0 read.1 in
     rw (← same_ok _ _ permille.2) (are_outages permille.0 read.0 most all)
+
+-- the outage of one stretch more
+pub one_outage_more : (permille : ℕ) (ss : List Stretch) (i : ℕ) (d : Stretch) → i < length ss → outages_in permille (take i ss) ++ record { stretch = get_or ss i d; permille = permille } ∷ [] ≡ outages_in permille (take (i + 1) ss)
+one_outage_more permille ss i d h = rw (take_more ss i d h) (sym (map-append (λ s. record { stretch = s; permille = permille }) (take i ss) (get_or ss i d ∷ [])))
