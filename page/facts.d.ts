@@ -10,7 +10,7 @@ export interface Key {
   default: number | string | boolean | null;
   words: string[] | null;
   queues: 'standard' | 'FIFO' | null;
-  beside: string | null;
+  beside: string[];
   least: string | null;
   since: number;
   replaces: string[];

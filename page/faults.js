@@ -208,7 +208,9 @@ function unknownKey(fault) {
   if (found && (key === 'calls' || key === 'script')) {
     return `${title} has both calls and script; one of them is enough.`;
   }
-  if (found?.beside) return `${key} stands only together with ${found.beside}, which ${title} does not have.`;
+  if (found?.beside.length) {
+    return `${key} stands only together with ${found.beside.join(' or ')}, which ${title} does not have.`;
+  }
   const other = fault.keys.find(({ name, replaces }) =>
     replaces.includes(String(key)) && fault.value(name) !== undefined);
   if (other) return `${title} has both ${key} and ${other.name}; ${other.name} takes its place.`;
@@ -232,9 +234,9 @@ function unknownKey(fault) {
 function missingKey(fault) {
   const { key, found } = fault, title = fault.title();
   if (key === 'calls') return `${title} has neither calls nor script, and needs one of them.`;
-  const beside = found?.beside ? ` beside ${found.beside}` : '';
+  const beside = found?.beside.length ? ` beside ${found.beside.join(' or ')}` : '';
   const at = found?.queues ? ` at a ${found.queues} queue` : '';
-  const other = fault.keys.find(({ replaces }) => replaces.includes(String(key)));
+  const other = beside ? undefined : fault.keys.find(({ replaces }) => replaces.includes(String(key)));
   const instead = other ? `; ${other.name} may be there in its place` : '';
   const names = fault.keys.map(({ name }) => name);
   const unknown = fault.table?.type === 'table' ? [...fault.table.value.keys()].filter(it => !names.includes(it)) : [];

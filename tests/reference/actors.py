@@ -115,39 +115,68 @@ class Consumer(Actor):
     def __init__(self, agent: int, settings: ConsumerSettings, seed: int) -> None:
         super().__init__(agent, seed, settings.start)
         self.settings = settings
-        # What one receive gave; what of that is not served, with the one in service first; what is left to settle.
+        # What it got for one batch; what of that is not served, with the one in service first; what is left to settle.
         self.batch: list[Held] = []
         self.unserved: list[Held] = []
         self.unsettled: list[Held] = []
         self.has_failed = False
         self.service_end = 0
+        # While it gathers messages for a batch: when its time for that is over.
+        self.is_gathering = False
+        self.gather_end = 0
 
     def wake(self, home: Home, number: int) -> None:
         settings = self.settings
         if self.unsettled:
             self.settle_next(home)
+        elif self.is_gathering:
+            left_s = (self.gather_end - home.now) // 1000
+            self.ask(home, settings.batch - len(self.batch), min(settings.wait_s, left_s))
         elif self.unserved and home.now < self.service_end:
             self.beat(home)
         elif self.unserved:
             self.end_service(home)
         elif settings.stop is None or home.now < settings.stop:
-            messages = home.receive(self, settings.batch, settings.wait_s, settings.timeout_s)
-            if messages is not None:
-                self.got(home, messages)
+            self.ask(home, settings.batch, settings.wait_s)
+
+    def ask(self, home: Home, most: int, wait_s: int) -> None:
+        messages = home.receive(self, most, wait_s, self.settings.timeout_s)
+        if messages is not None:
+            self.got(home, messages)
 
     def got(self, home: Home, messages: Sequence[Message]) -> None:
-        if messages:
-            self.batch = [Held(home, message) for message in messages]
-            self.unserved = list(self.batch)
-            self.serve_next(home)
-        else:
+        if not messages and not self.is_gathering:
             self.next_wake = home.now + self.settings.idle
+            return
+        if not self.is_gathering:
+            self.batch, self.gather_end = [], home.now + self.settings.gather
+        self.batch += [Held(home, message) for message in messages]
+        self.gather(home, 0 if messages else self.settings.idle)
+
+    def gather(self, home: Home, pause: int) -> None:
+        """Asks for more after a pause, no later than at the end of the time for that. It serves what it has if its
+        batch is whole, that time is over, or it may not ask any more by then."""
+        settings, again = self.settings, max(home.now + 1, min(self.gather_end, home.now + pause))
+        may_ask = settings.stop is None or again < settings.stop
+        self.is_gathering = len(self.batch) < settings.batch and home.now < self.gather_end and may_ask
+        if self.is_gathering:
+            self.next_wake = again
+        else:
+            self.unserved = list(self.batch)
+            self.begin_service(home)
+
+    def begin_service(self, home: Home) -> None:
+        """Of the next message, or of the whole batch if it is served at once."""
+        each_ms = self.settings.each_ms
+        time = self.settings.service.drawn(self.draws)
+        self.service_end = home.now + time + (len(self.batch) * each_ms if each_ms is not None else 0)
+        self.wake_in_service(home)
 
     def serve_next(self, home: Home) -> None:
-        """Begins the next service, or asks 1 ms later."""
-        if self.unserved:
-            self.service_end = home.now + self.settings.service.drawn(self.draws)
-            self.wake_in_service(home)
+        """Begins the next service. If its message was served with those before it, 1 ms later it is decided how that
+        ended. Without a message it asks 1 ms later."""
+        if self.unserved and self.settings.each_ms is None:
+            self.begin_service(home)
         else:
             self.next_wake = home.now + 1
 
@@ -163,9 +192,12 @@ class Consumer(Actor):
 
     def end_service(self, home: Home) -> None:
         settings, served = self.settings, self.unserved.pop(0)
-        fails_by_chance = self.draws.chance(settings.fail_permille)
-        is_poison = settings.fails_on is not None and settings.fails_on in served.body
-        self.has_failed = fails_by_chance or is_poison or home.now in settings.outage
+        together = [served]
+        if settings.is_whole and settings.each_ms is not None:
+            together, self.unserved = [served, *self.unserved], []
+        fails_by_chance = self.draws.chance(settings.fail_permille_at(home.now))
+        is_poison = settings.fails_on is not None and any(settings.fails_on in held.body for held in together)
+        self.has_failed = fails_by_chance or is_poison
         if self.has_failed:
             home.row(self.agent, "fail", "ok", served.id, served.receipt)
         if settings.is_whole:
@@ -198,7 +230,10 @@ class Consumer(Actor):
                 self.forward(home, held, self.settings.forward)
             home.delete(self.agent, held.receipt)
         elif backoff_s:
-            home.change(self.agent, held.receipt, backoff_s[min(held.receives, len(backoff_s)) - 1])
+            timeout_s = backoff_s[min(held.receives, len(backoff_s)) - 1]
+            if self.settings.has_jitter:
+                timeout_s = self.draws.uniform(0, timeout_s)
+            home.change(self.agent, held.receipt, timeout_s)
 
     def forward(self, home: Home, held: Held, forward: Forwarding) -> None:
         time = forward.latency.drawn(self.draws)

@@ -115,7 +115,8 @@ class Scenario:
         return 1000 * int(actor.get("timeout_s", own))
 
     def last_receive(self, row: Row) -> Table:
-        """The last receive of a row's actor by then: a script's call, or what a consumer always asks."""
+        """The last receive of a row's actor by then: a script's call, or what a consumer asks. One that gathers messages
+        may ask for fewer, and wait less."""
         actor = self.actors[row.agent]
         if actor["kind"] != "script":
             return {"max": actor.get("batch", 1), "wait": actor.get("wait_s", 0)}
@@ -388,7 +389,8 @@ def time(log: Log, scenario: Scenario) -> None:
         given[row.agent, row.at] += row.is_received()
         must(given[row.agent, row.at] <= int(call["max"] or 1), row, "too many")
         end = waits.pop(row.agent, None)
-        in_time = end is None or (row.at <= end if row.answer == "ok" else row.answer == "empty" and row.at == end)
+        in_time = end is None or (row.at <= end if row.answer == "ok" else row.answer == "empty" and (
+            row.at == end or row.at < end and scenario.actors[row.agent].get("gather_ms", 0) > 0))
         must(in_time, row, "waits too long")
         if row.answer == "wait":
             waits[row.agent] = row.at + 1000 * int(call["wait"])

@@ -15,11 +15,13 @@ STEPS = [1, 1, 1, 2, 5, 10, 99, 100, 500, 1000, 1000, 2000]
 EDITED_LINES = ["speed = 1", 'name = "q0"', "delay_s = -1", "hosts = 17", "body = 3", 'zeta = ""', "alpha = []",
                 "latency_ms = 0", 'to = "nobody"', 'forward = "q9"', "groups = 0", "sample = -5", "[x]", "[[actor]]",
                 "[[task]]", "[[queue]]", "stop_ms = 5", "copies = 2", 'batch_fails = "whole"', "fails_to_ms = 9",
+                'batch_service = "once"', "service_each_ms = 7", "fails_between_ms = [[1, 9], [5, 5]]",
+                "fails_permille = 10", 'backoff_jitter = "full"', "heartbeat_s = 1",
                 "service = [[0, 1], [1000, 5]]", "backoff_s = []", "gap = 7", 'key_groups = [["g", 1]]']
 EDITED_VALUES = ["-1", "0", "1", "3", "901", "43201", "99999999999", "9223372036854775807", "1.5", "true", '""',
                  '"abc"', '"a b"', "[]", "{}", "1979-05-27", '"q0"', '"q1.fifo"', '"script"', '"producer"',
                  '"consumer"', "[[0, 1], [0, 2], [1000, 3]]", "[[0, 5], [1000, 4]]", "[[0, 1], [999, 2]]", "[1, 2]",
-                 '[["g", 0]]', '[["g h", 1]]', "[[1000, 1], [0, 1]]"]
+                 '[["g", 0]]', '[["g h", 1]]', "[[1000, 1], [0, 1]]", '"once"', '"full"', "[[9, 8]]"]
 EDITED_FIELDS = ["", "01", "-1", "11", "99999999999", "21", "k0", '"', 'a"b', "4294967295", "4294967296", "é"]
 EDITED_TOPS = ["task = 3", "actor = {}", "queue = []", "actor = [1]", "task = [{}]", "extra = 1", "seed = -1"]
 
@@ -188,14 +190,36 @@ class Maker:
 
     def new_keys(self, start: int) -> dict[str, object]:
         """What version 3 has besides."""
-        begin = self.moment(0)
-        outage = {"fails_from_ms": begin, "fails_to_ms": self.moment(begin)} if self.random.random() < 0.3 else {}
-        backoffs = [self.one([0, 0, 1, 1, 2, 5, 43_200]) for _ in range(self.one([1, 1, 2, 3]))]
-        return {"stop_ms": self.rarely(0.3, [self.moment(start)]),
-                "fails_on": self.rarely(0.4, ["1", "a", "b", "{", "x,", "abc", "hi"]), **outage,
-                "batch_fails": self.rarely(0.5, ["each", "whole", "whole"]),
-                "backoff_s": self.rarely(0.5, [backoffs]), "heartbeat_s": self.rarely(0.4, [1, 1, 2, 3]),
+        return {"gather_ms": self.rarely(0.4, [0, 1, 1, 50, 1000, 5000, 300_000]),
+                "stop_ms": self.rarely(0.3, [self.moment(start)]),
+                "fails_on": self.rarely(0.4, ["1", "a", "b", "{", "x,", "abc", "hi"]), **self.outages(),
+                "batch_fails": self.rarely(0.5, ["each", "whole", "whole"]), **self.backoff(), **self.serving(),
                 "copies": self.rarely(0.3, [1, 2, 3])}
+
+    def outages(self) -> dict[str, object]:
+        """One outage, or several that may meet, or none."""
+        begin, kind = self.moment(0), self.random.random()
+        if kind < 0.2:
+            begins = [self.moment(0) for _ in range(self.one([1, 2, 2, 3]))]
+            keys: dict[str, object] = {"fails_between_ms": [[it, self.moment(it)] for it in begins]}
+        elif kind < 0.4:
+            keys = {"fails_from_ms": begin, "fails_to_ms": self.moment(begin)}
+        else:
+            return {}
+        return {**keys, "fails_permille": self.rarely(0.5, [0, 500, 900, 1000])}
+
+    def backoff(self) -> dict[str, object]:
+        if self.random.random() < 0.5:
+            return {}
+        return {"backoff_s": [self.one([0, 0, 1, 1, 2, 5, 43_200]) for _ in range(self.one([1, 1, 2, 3]))],
+                "backoff_jitter": self.rarely(0.5, ["none", "full", "full"])}
+
+    def serving(self) -> dict[str, object]:
+        """What one service is of, or heartbeats."""
+        if self.random.random() < 0.6:
+            return {"heartbeat_s": self.rarely(0.6, [1, 1, 2, 3])}
+        return {"batch_service": self.one(["each", "once", "once", "once"]),
+                "service_each_ms": self.rarely(0.6, [0, 1, 1, 10, 500])}
 
     # Scripts.
     def receipt(self, site: int) -> str:

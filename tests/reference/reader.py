@@ -8,10 +8,10 @@ from typing import Any
 
 from faults import Fault
 from scripts import ScriptFault, calls_of
-from settings import (ActorSettings, Bounds, ByQuantiles, Call, ConsumerSettings, Forwarding, Latency, Policy,
+from settings import (ActorSettings, Bounds, ByQuantiles, Call, ConsumerSettings, Forwarding, Latency, Outage, Policy,
                       ProducerSettings, QueueSettings, Role, Scenario, ScriptSettings, TaskSettings, Time)
 from tables import (MOST_DAY, MOST_TIME, Table, backoffs, boolean, document_of, integer, one_of, quantiles, sized_text,
-                    tables, text, weighted_groups)
+                    stretches, tables, text, weighted_groups)
 
 MOST_AGENTS, MOST_QUEUES, LONGEST_NAME = 10_000, 1_000, 80
 AGENT_NAME = re.compile(r"[A-Za-z0-9_-]{1,80}")
@@ -21,8 +21,8 @@ HEAD = ["name", "kind", "queue"]
 # The numbers that every queue may have, in the order in which they are read: their ranges and defaults.
 QUEUE_NUMBERS = {"visibility_s": (0, 43_200, 30), "delay_s": (0, 900, 0), "retention_s": (60, 1_209_600, 345_600),
                  "in_flight": (1, 120_000, 120_000)}
-# The keys of consumers that version 3 has besides, in the order in which they are read.
-NEW_CONSUMER_KEYS = ["stop_ms", "fails_on", "fails_from_ms", "batch_fails", "backoff_s", "heartbeat_s", "copies"]
+# The keys that each consumer of version 3 may have besides.
+NEW_CONSUMER_KEYS = ["gather_ms", "stop_ms", "batch_service", "fails_on", "batch_fails", "backoff_s", "copies"]
 
 
 def script_names(source: bytes) -> list[str]:
@@ -221,15 +221,15 @@ class Reader:
 
     def consumer(self, table: Table, home: int) -> ConsumerSettings:
         """What versions 1 and 2 have, after the keys are judged."""
-        new_keys = NEW_CONSUMER_KEYS + (["fails_to_ms"] if table.has("fails_from_ms") else [])
         table.only([*HEAD, "start_ms", "batch", "wait_s", "timeout_s", *self.time_keys(table, "service"),
                     "fail_permille", "idle_ms", "forward", *(self.latency_keys() if table.has("forward") else []),
-                    *(new_keys if self.version == 3 else [])])
+                    *(new_consumer_keys(table) if self.version == 3 else [])])
+        start, batch = table.optional("start_ms", integer(0, MOST_TIME), 0), table.optional("batch", integer(1, 10), 1)
+        gather = table.optional("gather_ms", integer(0, 300_000), 0)
         return ConsumerSettings(
-            table.optional("start_ms", integer(0, MOST_TIME), 0), table.optional("batch", integer(1, 10), 1),
-            table.optional("wait_s", integer(0, 20), 0), table.maybe("timeout_s", integer(0, 43_200)),
-            self.time(table, "service"), table.optional("fail_permille", integer(0, 1_000), 0),
-            table.optional("idle_ms", integer(1, MOST_DAY), 1_000), self.forwarding(table, home))
+            start, batch, table.optional("wait_s", integer(0, 20), 0), table.maybe("timeout_s", integer(0, 43_200)),
+            self.time(table, "service"), time_of_each(table), table.optional("fail_permille", integer(0, 1_000), 0),
+            table.optional("idle_ms", integer(1, MOST_DAY), 1_000), self.forwarding(table, home), gather)
 
     def forwarding(self, table: Table, home: int) -> Forwarding | None:
         if not table.has("forward"):
@@ -242,11 +242,12 @@ class Reader:
         """What version 3 has besides, but for the copies."""
         consumer.stop = self.stop(table, consumer.start)
         consumer.fails_on = table.maybe("fails_on", sized_text(1, 128))
-        if table.has("fails_from_ms"):
-            begin = table.required("fails_from_ms", integer(0, MOST_TIME))
-            consumer.outage = range(begin, table.required("fails_to_ms", integer(begin, MOST_TIME)))
+        times = outage_times(table)
+        permille = table.optional("fails_permille", integer(0, 1_000), 1_000)
+        consumer.outages = [Outage(time, permille) for time in times]
         consumer.is_whole = table.optional("batch_fails", one_of("each", "whole"), "each") == "whole"
         consumer.backoff_s = table.optional("backoff_s", backoffs, [])
+        consumer.has_jitter = table.optional("backoff_jitter", one_of("none", "full"), "none") == "full"
         seconds = table.maybe("heartbeat_s", integer(1, 43_200))
         consumer.heartbeat = seconds and 1000 * seconds
 
@@ -282,6 +283,34 @@ def table_of(key: str, number: int, item: Any) -> Table:
     if not isinstance(item, dict):
         raise Fault(13, place)
     return Table(item, f"{place}.")
+
+
+def new_consumer_keys(table: Table) -> list[str]:
+    """The keys that a consumer of version 3 may have besides. Some are known by the presence of others alone."""
+    outage = []
+    if table.has("fails_between_ms"):
+        outage = ["fails_between_ms", "fails_permille"]
+    elif table.has("fails_from_ms"):
+        outage = ["fails_from_ms", "fails_to_ms", "fails_permille"]
+    return [*NEW_CONSUMER_KEYS, "service_each_ms" if table.has("batch_service") else "heartbeat_s", *outage,
+            *(["backoff_jitter"] if table.has("backoff_s") else [])]
+
+
+def time_of_each(table: Table) -> int | None:
+    """What each message adds to a service of its batch, or None if it has a service of its own."""
+    is_at_once = table.optional("batch_service", one_of("each", "once"), "each") == "once"
+    each_ms = table.optional("service_each_ms", integer(0, MOST_DAY), 0)
+    return each_ms if is_at_once else None
+
+
+def outage_times(table: Table) -> list[range]:
+    """When a consumer has outages: by a list, or by the two ends of one."""
+    if table.has("fails_between_ms"):
+        return table.required("fails_between_ms", stretches)
+    if not table.has("fails_from_ms"):
+        return []
+    begin = table.required("fails_from_ms", integer(0, MOST_TIME))
+    return [range(begin, table.required("fails_to_ms", integer(begin, MOST_TIME)))]
 
 
 def copy_names(name: str, copies: int) -> list[str]:

@@ -116,22 +116,41 @@ class Forwarding:
 
 
 @dataclass
+class Outage:
+    """A time in which services fail with another chance, as while a dependency is down."""
+
+    time: range
+    fail_permille: int
+
+
+@dataclass
 class ConsumerSettings:
+    """The time of a service is of one message if `each_ms` is None. Else it is of a whole batch, and grows by so much
+    with each of its messages."""
+
     start: int
     batch: int
     wait_s: int
     timeout_s: int | None
     service: Time
+    each_ms: int | None
     fail_permille: int
     idle: int
     forward: Forwarding | None
+    gather: int = 0
     stop: int | None = None
     fails_on: str | None = None
-    outage: range = range(0)
+    outages: list[Outage] = field(default_factory=list)
     is_whole: bool = False
     backoff_s: list[int] = field(default_factory=list)
+    has_jitter: bool = False
     heartbeat: int | None = None
     copies: int | None = None
+
+    def fail_permille_at(self, moment: int) -> int:
+        """Of a thousand services that end at a moment how many fail: by the first outage that it is in, if there is
+        one."""
+        return next((outage.fail_permille for outage in self.outages if moment in outage.time), self.fail_permille)
 
 
 Role = ScriptSettings | ProducerSettings | ConsumerSettings

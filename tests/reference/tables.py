@@ -167,3 +167,13 @@ def weighted_groups(value: Any, place: str) -> list[tuple[str, int]]:
 
 def backoffs(value: Any, place: str) -> list[int]:
     return [integer(0, 43_200)(item, at) for item, at in items_in(value, place, 1, 12)]
+
+
+def stretches(value: Any, place: str) -> list[range]:
+    """Pairs [from, to] of moments, of which the second is not in the stretch of time."""
+    found = []
+    for item, at in items_in(value, place, 1, 32):
+        first, second = pair_in(item, at)
+        begin = integer(0, MOST_TIME)(first, at)
+        found.append(range(begin, integer(begin, MOST_TIME)(second, at)))
+    return found

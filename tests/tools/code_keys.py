@@ -6,7 +6,8 @@ import re
 from collections.abc import Iterator
 
 from tool import ROOT
-from rehearse_tools.keys import ITEMS, NUMBER, NUMBERS, QUANTILES, REQUIRED, TABLES, TEXT, TRUTH, WEIGHTS, Key
+from rehearse_tools.keys import (ITEMS, NUMBER, NUMBERS, QUANTILES, REQUIRED, STRETCHES, TABLES, TEXT, TRUTH, WEIGHTS,
+                                 Key)
 
 SOURCES = os.path.join(ROOT, "crates", "sim_scenario", "src")
 # A function of a file, or of an implementation of a trait for a type.
@@ -18,17 +19,20 @@ READ = re.compile(
     r'section\s*\.(required_list)\("(\w+)"\)|'
     r'(agent_list)\([^"()]*(?:\(\))?[^"()]*"(\w+)"\)|'
     r'\btime\(\s*"(\w+)",\s*"(\w+)",\s*"(\w+)",\s*section,?\s*\)|'
-    r'\b(queue_list|kind|policy|latency|sending|forward|calls|stopping|failing|outage|groups)\(')
+    r'\b(queue_list|kind|policy|latency|sending|forward|calls|stopping|failing|serving|outages|'
+    r'stretches_by|one_stretch|groups)\(')
 # What the two bounds of a time and the pairs of its quantiles have at most, and how many pairs there are.
 TIME = re.compile(r'section\.bounds\(low, high, ([\d_]+)\)')
 PAIRS = re.compile(r'list_of\(section, value, key, ([\d_]+), ([\d_]+), &Pair\)')
 LIST = re.compile(r'(?:_KEYS: &\[&str\] = &\[|&\[)((?:\s*"\w+",?)+)\s*\]')
 # The words of each list that a key's value may be one of.
-WORDS = {"SCOPES": ("queue", "group"), "KINDS": ("script", "producer", "consumer"), "FAILURES": ("each", "whole")}
+WORDS = {"SCOPES": ("queue", "group"), "KINDS": ("script", "producer", "consumer"), "FAILURES": ("each", "whole"),
+         "SERVINGS": ("each", "once"), "JITTERS": ("none", "full")}
 # The keys whose values are the least values of others, by their names in the code; each may be 0.
 LEAST = {"start": "start_ms", "from": "fails_from_ms"}
 # The functions that several files use, with their files.
-SHARED = {"latency": "queues.rt", "stopping": "producers.rt"}
+SHARED = {"latency": "queues.rt", "stopping": "producers.rt", "outages": "outages.rt", "stretches_by": "outages.rt",
+          "one_stretch": "outages.rt"}
 
 
 def functions(file: str) -> dict[str, str]:
@@ -71,6 +75,8 @@ def key_of(how: str, name: str, type_: str, bounds: str | None, text: str | None
         return Key(name, NUMBERS, numbers[0], numbers[1])
     if type_ == "WeightedGroups":
         return Key(name, WEIGHTS, *pairs_in("groups.rt"), default=default)
+    if type_ == "Stretches":
+        return Key(name, STRETCHES, *pairs_in("outages.rt"), default=default)
     if type_ == "SizedText":
         return Key(name, TEXT, numbers[0], numbers[1], default)
     if type_ not in ("Integer", "Seconds"):
@@ -130,7 +136,11 @@ def constant(file: str, name: str) -> int | None:
     return number(found[1]) if found else None
 
 
-def listed_keys(file: str) -> set[str]:
-    """The keys that a file's tables may have, as they are listed there."""
-    with open(os.path.join(SOURCES, file), encoding="utf-8") as source:
-        return {name for match in LIST.finditer(source.read()) for name in re.findall(r'"(\w+)"', match.group(1))}
+def listed_keys(*files: str) -> set[str]:
+    """The keys that the tables of some files may have, as they are listed there."""
+    found: set[str] = set()
+    for file in files:
+        with open(os.path.join(SOURCES, file), encoding="utf-8") as source:
+            found.update(name for match in LIST.finditer(source.read())
+                         for name in re.findall(r'"(\w+)"', match.group(1)))
+    return found

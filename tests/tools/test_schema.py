@@ -9,7 +9,7 @@ from code_keys import code_keys, constant, listed_keys
 from tool import ROOT
 from rehearse_tools.console import Fault, library, toml_of
 from rehearse_tools.keys import (CONSUMER, FIFO, HEAD, ITEMS, NUMBER, NUMBERS, PREVIEW, PRODUCER, QUANTILES, QUEUE,
-                                 REQUIRED, SCRIPT, STANDARD, TASK, TOP, TRUTH, VERSIONS, WEIGHTS, consumer_keys,
+                                 REQUIRED, SCRIPT, STANDARD, STRETCHES, TASK, TOP, TRUTH, VERSIONS, WEIGHTS, consumer_keys,
                                  keys_of, latency)
 from stored_cases import REFUSED, RUNNING, stored
 
@@ -20,7 +20,7 @@ except Fault:
 # What a schema cannot say, by the line of the refusal; docs/FORMATS.md has it in words.
 UNSAID = re.compile(r"refused (?:10 NotToml|(?:15|19) .*\.copies|16 .*|17 .*|18 .*|20 .*|12 MissingKey at .*\.script|"
                     r"14 OutOfRange at (?:version|.*\.(?:gap_max_ms|service_max_ms|latency_max_ms|sampled|body|stop_ms|"
-                    r"fails_on|fails_to_ms|(?:gap|service)\[[0-9]+\])))\n")
+                    r"fails_on|fails_to_ms|(?:gap|service|fails_between_ms)\[[0-9]+\])))\n")
 with open(os.path.join(ROOT, "docs", "scenario.schema.json"), encoding="utf-8") as schema_file:
     SCHEMA = json.load(schema_file)
 # The tables of keys in docs/FORMATS.md, by the first cell of their heads.
@@ -33,8 +33,10 @@ CODE = {("top.rt", "top_table"): TOP, ("queues.rt", "Queues::read"): QUEUE + LAT
         ("consumers.rt", "consumer"): consumer_keys(LATENCY)[len(HEAD):], ("tasks.rt", "Tasks::read"): TASK + LATENCY}
 LISTS = {"top.rt": TOP, "queues.rt": QUEUE + LATENCY, "section.rt": HEAD, "scripted.rt": SCRIPT[len(HEAD):],
          "producers.rt": PRODUCER[len(HEAD):], "consumers.rt": CONSUMER[len(HEAD):], "tasks.rt": TASK}
+# What a file leaves to others of its lists.
+LISTED = {"consumers.rt": ["outages.rt"]}
 # These are read only where they are there, so that they are required then.
-WHERE_THERE = {"calls", "script", "dead_letter", "forward", "fails_from_ms", "key_groups"}
+WHERE_THERE = {"calls", "script", "dead_letter", "forward", "fails_between_ms", "fails_from_ms", "key_groups"}
 # A key that is read apart from the others of its table, by another function: behind what its actor does.
 APART = {("consumers.rt", "consumer"): ("actors.rt", "copies")}
 
@@ -105,7 +107,7 @@ class Documents(unittest.TestCase):
             return f"{key.low}..{key.high} numbers, each {low}..{high:,}"
         if key.kind == QUANTILES:
             return "quantiles"
-        if key.kind == WEIGHTS:
+        if key.kind in (WEIGHTS, STRETCHES):
             return f"{key.low}..{key.high} pairs"
         return "true, false" if key.kind == TRUTH else ", ".join(key.words or ())
 
@@ -147,14 +149,14 @@ class Documents(unittest.TestCase):
         default = 0 if key.name == "copies" else key.default
         self.assertEqual(found.default, REQUIRED if key.name in WHERE_THERE else
                          "hosts" if key.name == "sampled" else default)
-        if key.kind in (NUMBER, NUMBERS, QUANTILES, WEIGHTS) or key.name == "fails_on":
+        if key.kind in (NUMBER, NUMBERS, QUANTILES, WEIGHTS, STRETCHES) or key.name == "fails_on":
             self.assertEqual((found.low, found.high),
                              (key.low, None if key.name in ("sampled", "version") else key.high))
         self.assertEqual((found.words, found.least), (key.words, key.least))
 
     def test_code_lists_the_same_keys(self):
         for file, keys in LISTS.items():
-            self.assertEqual(listed_keys(file), {key.name for key in keys}, file)
+            self.assertEqual(listed_keys(file, *LISTED.get(file, ())), {key.name for key in keys}, file)
 
     def test_code_reads_the_same_versions(self):
         self.assertEqual((constant("draft.rt", "RELEASED"), constant("draft.rt", "PREVIEW")), VERSIONS[-2:])
@@ -181,7 +183,7 @@ class Documents(unittest.TestCase):
                 given = found[key.name]
                 if key.kind == NUMBER:
                     self.assertEqual((given["minimum"], given["maximum"]), (key.low, key.high))
-                if key.kind in (NUMBERS, QUANTILES, WEIGHTS):
+                if key.kind in (NUMBERS, QUANTILES, WEIGHTS, STRETCHES):
                     of = SCHEMA["definitions"]["quantiles"] if key.kind == QUANTILES else given
                     self.assertEqual((of["minItems"], of["maxItems"]), (key.low, key.high))
                 if key.name in ITEMS:

@@ -24,8 +24,8 @@ from collections.abc import Iterator, Sequence
 from typing import Any
 
 from .console import Fault, Parser, print_text, read_bytes, read_text, shown, toml_of
-from .keys import (ACTORS, FIFO, ITEMS, NUMBER, NUMBERS, PREVIEW, QUANTILES, REQUIRED, TABLES, TEXT, VERSIONS, WEIGHTS,
-                   Key, keys_of)
+from .keys import (ACTORS, FIFO, ITEMS, NUMBER, NUMBERS, PREVIEW, QUANTILES, REQUIRED, STRETCHES, TABLES, TEXT,
+                   VERSIONS, WEIGHTS, Key, keys_of)
 from .positions import Lost, Path, Positions
 from .programs import program_of, reading_words
 from .scenarios import text_of_value as text_of
@@ -43,14 +43,17 @@ NAMES = {"queue": "A queue's name has 1 to 80 ASCII letters, digits, - and _, an
                   "which counts among the 80.",
          "actor": "A name has 1 to 80 ASCII letters, digits, - and _."}
 # What a list that is the value of a key has.
-LISTS = {NUMBERS: "whole numbers", QUANTILES: "pairs [permille, ms]", WEIGHTS: "pairs [group, weight]"}
+LISTS = {NUMBERS: "whole numbers", QUANTILES: "pairs [permille, ms]", WEIGHTS: "pairs [group, weight]",
+         STRETCHES: "pairs [from, to] in ms"}
 QUANTILES_RULE = "It is a pair [permille, ms]. The first permille is 0 and the last 1,000; each other one is greater " \
     "than the one before it, and at most 999. Times have 1 to 86,400,000, and none is less than the one before it."
 WEIGHTS_RULE = "It is a pair [group, weight]. The group has 1 to 128 bytes of 0x21 to 0x7E, and the weight has 1 to " \
     "1,000,000."
+STRETCHES_RULE = "It is a pair [from, to] in ms. Both have 0 to 2,592,000,000, and the second is no less than the first."
 ITEM_FORMS = {QUANTILES: "a pair of two whole numbers, as [500, 120]",
-              WEIGHTS: 'a pair of a text and a whole number, as ["customer-7", 90]'}
-ITEM_RULES = {QUANTILES: QUANTILES_RULE, WEIGHTS: WEIGHTS_RULE}
+              WEIGHTS: 'a pair of a text and a whole number, as ["customer-7", 90]',
+              STRETCHES: "a pair of two whole numbers, as [600000, 1800000]"}
+ITEM_RULES = {QUANTILES: QUANTILES_RULE, WEIGHTS: WEIGHTS_RULE, STRETCHES: STRETCHES_RULE}
 NAME_MOST = 80
 COPIES_MOST = 1_000
 LINE_MOST = 160
@@ -158,7 +161,7 @@ def unknown_key(scenario: Scenario) -> str:
     if key in ("calls", "script") and found:
         return f"{title} has both calls and script; one of them is enough."
     if found and found.beside:
-        return f"{key} stands only together with {found.beside}, which {title} does not have."
+        return f"{key} stands only together with {' or '.join(found.beside)}, which {title} does not have."
     other = replaced_by(scenario, key)
     if other:
         return f"{title} has both {key} and {other}; {other} takes its place."
@@ -192,15 +195,18 @@ def missing_key(scenario: Scenario) -> str:
         return f"{title} has neither calls nor script, and needs one of them."
     text = f"{title} has no {key}, which is required"
     if found and found.beside:
-        text += f" beside {found.beside}"
+        text += f" beside {' or '.join(found.beside)}"
     if found and found.queues:
         text += f" at a {found.queues} queue"
     return f"{text}{in_its_place(scenario, key)}.{range_beside(scenario, found)}{nearest_key(scenario)}"
 
 
 def in_its_place(scenario: Scenario, key: str) -> str:
-    """The key that may be there in place of one that is missing, which has no other."""
-    found = next((other.name for other in scenario.keys().values() if key in other.replaces), "")
+    """The key that may be there in place of one that is missing, which has no other, and goes with none that is
+    there."""
+    keys = scenario.keys()
+    goes_along = key in keys and keys[key].beside
+    found = next((other.name for other in keys.values() if key in other.replaces and not goes_along), "")
     return f"; {found} may be there in its place" if found else ""
 
 

@@ -1,8 +1,8 @@
 """Reads the tables in facts/, which have what documents, tools and the page tell of keys, refusals and columns:
 
 - keys.csv has the keys of a scenario, by their tables and in the order in which they are read. `range` says it in words
-  where the numbers do not, `queues` is the only kind of queue that may have the key, `beside` the only key beside which
-  it may stand, `least` the key that is its least value, `replaces` those in whose place it may stand, and `items` the
+  where the numbers do not, `queues` is the only kind of queue that may have the key, `beside` the keys beside one of
+  which alone it may stand, `least` the key that is its least value, `replaces` those in whose place it may stand, and `items` the
   bounds of each number of a list. `about` is for all who ask what a key is, and `rule` for docs/FORMATS.md alone. The
   row `latency` of a table stands for the keys of the table latency.
 - refusals.csv has the refusals by number. Those of calls have no status of the program; `aws` is the error of SQS, and

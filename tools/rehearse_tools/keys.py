@@ -8,20 +8,20 @@ from .fact_tables import rows_of
 
 NUMBER, TEXT, TRUTH, TABLES = "a whole number", "a text", "true or false", "a list of tables"
 NUMBERS, QUANTILES = "a list of whole numbers", "a list of pairs [permille, ms]"
-WEIGHTS = "a list of pairs [group, weight]"
+WEIGHTS, STRETCHES = "a list of pairs [group, weight]", "a list of pairs [from, to] in ms"
 REQUIRED = "required"
 STANDARD, FIFO = "standard", "FIFO"
 # The kinds by what the table of keys calls them: a name, a queue's name and a file's name are texts.
 KINDS = {"number": NUMBER, "truth": TRUTH, "tables": TABLES, "numbers": NUMBERS, "quantiles": QUANTILES,
-         "weights": WEIGHTS, "text": TEXT, "name": TEXT, "queue": TEXT, "file": TEXT}
+         "weights": WEIGHTS, "stretches": STRETCHES, "text": TEXT, "name": TEXT, "queue": TEXT, "file": TEXT}
 # The name of the rows that stand for the keys of a latency.
 LATENCY = "latency"
 
 
 class Key(NamedTuple):
     """A key of a table: its kind, its range or allowed words, and its default (None if it may be absent without one).
-    Also the only kind of queue that may have it, the only key beside which it may occur, the key that is its least
-    value, the first version that has it, and the keys in whose place it may be. The range of a text is in bytes, and
+    Also the only kind of queue that may have it, the keys beside one of which alone it may occur, the key that is its
+    least value, the first version that has it, and the keys in whose place it may be. The range of a text is in bytes, and
     that of a list is how many items it has."""
 
     name: str
@@ -31,7 +31,7 @@ class Key(NamedTuple):
     default: int | str | None = None
     words: Sequence[str] | None = None
     queues: str | None = None
-    beside: str | None = None
+    beside: Sequence[str] = ()
     least: str | None = None
     since: int = 1
     replaces: Sequence[str] = ()
@@ -49,7 +49,7 @@ def default_of(text: str, kind: str) -> int | str | None:
 def key_of(row: Mapping[str, str]) -> Key:
     low, high = (int(row[name]) if row[name] else None for name in ("low", "high"))
     return Key(row["name"], KINDS[row["kind"]], low, high, default_of(row["default"], row["kind"]),
-               tuple(row["words"].split()) or None, row["queues"] or None, row["beside"] or None, row["least"] or None,
+               tuple(row["words"].split()) or None, row["queues"] or None, tuple(row["beside"].split()), row["least"] or None,
                int(row["since"]), tuple(row["replaces"].split()))
 
 
@@ -58,7 +58,7 @@ def keys_in(table: str) -> list[Key]:
     return [key_of(row) for row in ROWS if row["table"] == table and row["kind"] != LATENCY]
 
 
-def latency(version: int, beside: str | None = None) -> list[Key]:
+def latency(version: int, beside: Sequence[str] = ()) -> list[Key]:
     """The keys of a latency in a version of scenarios: one time in the first, and two bounds from the second on."""
     return [key._replace(beside=beside) for key in keys_in(LATENCY) if (key.since == 1) == (version == 1)]
 
@@ -84,9 +84,9 @@ def keys_of(of: str, kind: str | None, version: int) -> list[Key]:
     """The keys of a table in a version: of the top if `of` is empty, of queues, tasks, or actors of a kind."""
     keys = TOP
     if of == "queue":
-        keys = QUEUE + latency(version, "dead_letter")
+        keys = QUEUE + latency(version, ("dead_letter",))
     elif of == "task":
         keys = TASK + latency(version)
     elif of == "actor":
-        keys = consumer_keys(latency(version, "forward")) if kind == "consumer" else ACTORS.get(kind or "", HEAD)
+        keys = consumer_keys(latency(version, ("forward",))) if kind == "consumer" else ACTORS.get(kind or "", HEAD)
     return [key for key in keys if key.since <= version]

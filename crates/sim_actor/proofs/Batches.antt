@@ -1,5 +1,5 @@
 -- The three parts of a receive's messages.
-use Rattle.std.proofs.Common.{false, IfNone, IfSome, IsSome, List, MatchOption, None, OnSome, Option, Some, [], add-one, ap, arith, drop, get_or, length, option_to_list, refl, suc, sym, take, ℕ, ◌↔◌, ◌++◌, ◌+◌, ◌-◌, ◌<◌, ◌∙◌, ◌∷◌, ◌≡◌, ◌≤◌}
+use Rattle.std.proofs.Common.{false, true, IfNone, IfSome, IsSome, List, MatchOption, None, OnSome, Option, Some, [], add-one, ap, arith, drop, get_or, length, option_to_list, refl, suc, sym, take, ℕ, ◌↔◌, ◌++◌, ◌+◌, ◌-◌, ◌<◌, ◌∙◌, ◌∷◌, ◌≡◌, ◌≤◌}
 use Rattle.std.specs.Borrow.{Bor}
 use Rattle.std.specs.List.{remove}
 use Rattle.std.specs.Option.{is_some, option_copied}
@@ -166,3 +166,8 @@ some_first (x ∷ xs) g e = let same : x ≡ g = cc in (xs, ap (λ (y : Got). y 
 pub no_first : (o : Option (Bor Got)) (gots : List Got) → false ≡ is_some o → option_copied o ≡ first_of gots → gots ≡ []
 no_first None gots n e = none_first gots e
 no_first (Some x) gots n e = cc
+
+pub has_first : (o : Option (Bor Got)) (gots : List Got) → is_some o ≡ true → option_copied o ≡ first_of gots → (g : Got) × (gs : List Got) × (gots ≡ g ∷ gs)
+has_first None gots n e = cc
+has_first (Some x) [] n e = cc
+has_first (Some x) (g ∷ gs) n e = (g, gs, refl)

@@ -46,6 +46,11 @@ with_failed g h = record h { failed = g ∷ h.failed }
 abbrev pub TakesFirst : (Holding → List Got) → (Got → Holding → Holding) → Holding → Option Got → Holding → Type 0
 TakesFirst messages put_back old result new = MatchOption result ((messages old ≡ []) × (new ≡ old)) (λ got. old ≡ put_back got new)
 
+-- all messages that are not served yet were served: the first of them is taken, and the others will be deleted; or there
+-- is none
+abbrev pub ServesAll : Holding → Option Got → Holding → Type 0
+ServesAll old result new = MatchOption result ((old.held ≡ []) × (new ≡ old)) (λ got. (old.held ≡ got ∷ new.done) × (new ≡ record old { done = new.done; held = [] }))
+
 -- what holds of the first message that is not served yet and those behind it, if there is one
 abbrev pub OfFirst : Holding → (Got → List Got → Type 0) → Type 0
 OfFirst h P = (got : Got) (others : List Got) → h.held ≡ got ∷ others → P got others

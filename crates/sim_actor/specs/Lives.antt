@@ -19,7 +19,8 @@ use Rattle.sqs_model.specs.declared.acts.Answer.TheVariants as told_by
 use Rattle.sqs_model.specs.declared.agents.ActorSettings.{ActorSettings}
 use Rattle.sqs_model.specs.declared.agents.Role.{Role}
 use Rattle.sqs_model.specs.declared.agents.Role.TheVariants.{Consumer, Producer, Script}
-use Rattle.sqs_model.specs.Actor.{Actor, Asked, Beat, Ended, Failed, Served, LastAct, act_of, ends_drawn, ends_well, first_at, next_beat, wakes_after}
+use Rattle.sqs_model.specs.declared.agents.Serving.{Serving}
+use Rattle.sqs_model.specs.Actor.{Actor, Asked, Beat, Ended, Failed, Gathered, Served, LastAct, act_of, at_stake, begins, ends_drawn, ends_well, ends_whole, failing_at, fails, first_at, next_beat, service_of, wakes_after}
 use Rattle.sqs_model.specs.Answers.{most_count}
 use Rattle.sqs_model.specs.Draw.{Draws, drawn_chance, drawn_time}
 use Rattle.sqs_model.specs.Valid.{IsConsumer, IsProducer}
@@ -36,6 +37,7 @@ IsRole (Consumer c) = IsConsumer c
 -- the definitions' word for what a consumer did last
 abbrev pub last_act_of : OwnStage → LastAct
 last_act_of own.Asked = Asked
+last_act_of own.Gathered = Gathered
 last_act_of (own.Served receipt) = Served receipt
 last_act_of own.Ended = Ended
 last_act_of own.Failed = Failed
@@ -114,17 +116,25 @@ act_following follow_ups.Nothing = acts.Nothing
 act_following (follow_ups.Delete receipt) = acts.Delete (receipt_text receipt)
 act_following (follow_ups.Change receipt timeout) = acts.Change (receipt_text receipt) timeout
 
--- what an actor does on a reply and the actor after it are the definition's
+-- what an actor does on a reply and the actor after it are the definition's; nothing is said of it if memory runs out
 abbrev pub FollowsUp : Result FollowUp Refusal → Actor → Act × Actor → Type 0
 FollowsUp (Ok follow_up) new model = model ≡ (act_following follow_up, new)
 FollowsUp (Err refusals.CountLimit) new model = most_count < greatest_count model.1
+FollowsUp (Err refusals.Memory) new model = Unit {0}
 FollowsUp (Err e) new model = ⊥
 
--- by the definition it does nothing, and the actor after it is the definition's
+-- by the definition it does nothing, and the actor after it is the definition's; nothing is said of it if memory runs out
 abbrev pub DoesNothing : Result (Unit {0}) Refusal → Actor → Act × Actor → Type 0
 DoesNothing (Ok u) new model = model ≡ (acts.Nothing, new)
 DoesNothing (Err refusals.CountLimit) new model = most_count < greatest_count model.1
+DoesNothing (Err refusals.Memory) new model = Unit {0}
 DoesNothing (Err e) new model = ⊥
+
+-- the visibility timeout of a message with this receipt and the actor after it are the definition's
+abbrev pub Changes : Receipt → Result ℕ Refusal → Actor → Act × Actor → Type 0
+Changes receipt (Ok timeout) new model = model ≡ (acts.Change (receipt_text receipt) timeout, new)
+Changes receipt (Err refusals.CountLimit) new model = most_count < greatest_count model.1
+Changes receipt (Err e) new model = ⊥
 
 -- the act that makes the first of some calls, and when the next is made
 abbrev pub made_of : List ScriptCall → Option (Act × Option ℕ)
@@ -154,6 +164,14 @@ Lived old new P = (s : ActorSettings) → P (lived s old) (lived s new)
 abbrev pub in_service : ConsumerSettings → ℕ → Life → Life
 in_service c now l = record l { wake = Some (max (now + 1) (next_beat c.heartbeat now l.ends)) }
 
+-- a consumer that begins a service of so many messages
+abbrev pub begins_service : ℕ → ConsumerSettings → ℕ → Actor → Actor
+begins_service messages c now a = begins a c now (service_of c.serving messages (drawn_time c.service a.draws))
+
+-- whether a service fails whose first message is this one, with the others that are held
+abbrev pub service_fails : ConsumerSettings → Got → List Got → Bool → Bool
+service_fails c g gs by_chance = fails c (at_stake c.serving c.whole g gs) by_chance
+
 -- an actor that wakes after a time that is drawn
 abbrev pub wakes_by : Distribution → ℕ → Actor → Actor
 wakes_by d now a = wakes_after a now (drawn_time d a.draws)
@@ -162,9 +180,13 @@ wakes_by d now a = wakes_after a now (drawn_time d a.draws)
 abbrev pub ends_held : Bool → ConsumerSettings → ℕ → Actor → Got → Act × Actor
 ends_held whole c now a g = ends_well whole a c now g a.held
 
+-- the same of a receive that ends as a whole
+abbrev pub ends_all : Serving → ConsumerSettings → ℕ → Actor → Got → Act × Actor
+ends_all serving c now a g = ends_whole serving a c now g a.held
+
 -- the end of its service, which may fail by chance
 abbrev pub ends_by_chance : ConsumerSettings → ℕ → Actor → Got → Act × Actor
-ends_by_chance c now a g = ends_drawn a c now g (drawn_chance c.fail_permille a.draws)
+ends_by_chance c now a g = ends_drawn a c now g (drawn_chance (failing_at c.outages c.fail_permille now) a.draws)
 
 -- the end of the service of a message, wherever its actor is at home
 abbrev pub EndsAnywhere : MessageId → Receipt → Act → Life → Life → (Actor → Got → Act × Actor) → Type 0

@@ -1,11 +1,15 @@
 //! The messages that a consumer has.
-ghost use Rattle.std.specs.Prelude.{◌≡◌, ◌↔◌, [], drop, true};
+ghost use Rattle.std.specs.Prelude.{◌≡◌, ◌↔◌, ◌++◌, [], drop, length, true, IfOk};
 ghost use Rattle.std.specs.Option.{option_copied};
-ghost use Rattle.sim_actor.specs.Holdings.{failed_first, first_of, only_held, served_first, OfFirst, TakesFirst, all_to_change, with_done, with_failed, with_held};
+ghost use Rattle.std.specs.Iterator.Runs.{YieldsRefsInOrder};
+ghost use Rattle.std.specs.VecDeque.Iter.{deque_iter_rest, deque_iter_steps};
+ghost use Rattle.sqs_redrive.specs.declared.answers.Got.{Got};
+ghost use Rattle.sim_actor.specs.Holdings.{failed_first, first_of, only_held, served_first, OfFirst, ServesAll, TakesFirst, all_to_change, with_done, with_failed, with_held};
 
 use sqs_redrive::Got;
-use std::alloc::Global;
+use std::alloc::{AllocError, Global};
 use std::collections::VecDeque;
+use std::collections::vec_deque::Iter;
 use std::marker::Model;
 
 /// The messages of one receive, in order. The first of them are those whose visibility timeouts
@@ -66,6 +70,29 @@ impl Holding {
         self.messages.get(self.failed + self.done)
     }
 
+    /// The messages that are not served yet, in order.
+    pub fn held(&self) -> Iter<'_, Got>
+        ensures list { deque_iter_rest result ≡ self.now.held }
+        ensures runs { YieldsRefsInOrder (deque_iter_steps {X = Got}) deque_iter_rest }
+    {
+        self.messages.range(self.failed + self.done..)
+    }
+
+    /// How many messages are not served yet.
+    pub fn held_count(&self) -> usize
+        ensures { result ≡ length self.now.held }
+    {
+        self.messages.len() - self.failed - self.done
+    }
+
+    /// Puts messages behind those that are not served yet. It fails if memory runs out.
+    pub fn append(&mut self, messages: Vec<Got>) -> Result<(), AllocError>
+        ensures { IfOk result (λ _. self.new
+            ≡ record self.old { held = self.old.held ++ messages.items }) }
+    {
+        self.messages.append(&mut VecDeque::from(messages))
+    }
+
     /// Takes the first message that is not served yet.
     pub fn take_held(&mut self) -> Option<Got>
         ensures { TakesFirst (λ h. h.held) with_held self.old result self.new }
@@ -117,6 +144,17 @@ impl Holding {
         if self.failed + self.done < self.messages.len() {
             self.done += 1;
         }
+    }
+
+    /// All messages that are not served yet were served: takes the first of them, and the others
+    /// take the place of those that will be deleted. If there is none, nothing changes.
+    pub fn serve_all(&mut self) -> Option<Got>
+        ensures { ServesAll self.old result self.new }
+    {
+        let first = self.take_held()?;
+        self.messages.drain(self.failed..self.failed + self.done);
+        self.done = self.messages.len() - self.failed;
+        Some(first)
     }
 
     /// The service of the first message that is not served yet failed. Its timeout will change,

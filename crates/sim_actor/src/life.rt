@@ -7,6 +7,7 @@ ghost use Rattle.sim_actor.specs.Lives.{Becomes, Lived, wakes_by};
 
 mod consumer;
 mod failing;
+mod gathering;
 mod producer;
 mod script;
 
@@ -23,6 +24,8 @@ use std::marker::Model;
 pub enum LastAct {
     /// It asked for messages.
     Asked,
+    /// It asked for more messages while it holds some.
+    Gathered,
     /// It served the message with this receipt, and the service ended well.
     Served(Receipt),
     /// It ended a service and did what follows one.
@@ -40,7 +43,7 @@ pub struct Life {
     pub(crate) alloc: Global,
     pub(crate) number: u32,
     pub(crate) holding: Holding,
-    // When the service ends.
+    // When the service ends, or before it the time to gather messages.
     pub(crate) ends: u64,
     pub(crate) last_act: LastAct,
     pub(crate) wake: Option<u64>,

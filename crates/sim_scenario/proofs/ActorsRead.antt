@@ -9,12 +9,13 @@ use Rattle.std.specs.Result.{result_map_both}
 use Rattle.sqs_message.specs.declared.calls.ScriptCall.{ScriptCall}
 use Rattle.sqs_formats.specs.declared.actor_kind.ActorKind.{ActorKind}
 use Rattle.sqs_formats.specs.declared.actor_kind.ActorKind.TheVariants as kinds
+use Rattle.sqs_formats.specs.declared.failing.Failing.{Failing}
 use Rattle.sqs_formats.specs.declared.home.Home.{Home}
 use Rattle.sqs_formats.specs.Keys.{Table, at, has, integer, optional, place_of, seconds, text_when}
 use Rattle.sqs_formats.specs.Copies.{copy_name, copy_names}
 use Rattle.sqs_formats.specs.Names.{is_agent_name}
 use Rattle.sqs_formats.specs.Outline.{Outline, actor_place, is_fresh, kin_named, kind_at, queue_named, queue_number}
-use Rattle.sqs_formats.specs.Actors.{Files, actor, agents_of, copies, calls, calls_by, calls_in, consuming, failing, forward, gap, home_of, producing, role, script_fault, script_file, scripted, sending, service, stopping}
+use Rattle.sqs_formats.specs.Actors.{Files, actor, agents_of, copies, calls, calls_by, calls_in, consuming, failing, forward, gap, home_of, producing, role, script_fault, script_file, scripted, sending, service, serving, serving_of, stopping}
 use Rattle.sqs_formats.specs.Script.{script}
 use Rattle.sqs_model.specs.declared.agents.ActorSettings.{ActorSettings}
 use Rattle.sqs_model.specs.declared.agents.Distribution.{Distribution}
@@ -23,9 +24,9 @@ use Rattle.sqs_model.specs.declared.agents.Groups.{Groups}
 use Rattle.sqs_model.specs.declared.agents.ProducerSettings.{ProducerSettings}
 use Rattle.sqs_model.specs.declared.agents.Role.{Role}
 use Rattle.sqs_model.specs.declared.agents.Role.TheVariants.{Consumer, Producer, Script}
-use Rattle.sqs_model.specs.declared.agents.Stretch.{Stretch}
+use Rattle.sqs_model.specs.declared.agents.Serving.{Serving}
 use Rattle.sqs_model.specs.Longest.{longest_delay, longest_timeout}
-use Rattle.sqs_model.specs.Valid.{IsDistribution, MayBeForward, MayBeGroups, MayBeHeartbeat, MayBeMoment, MayBeTimeout}
+use Rattle.sqs_model.specs.Valid.{IsDistribution, IsOutage, IsServing, MayBeForward, MayBeGroups, MayBeHeartbeat, MayBeMoment, MayBeTimeout}
 use Rattle.sqs_formats.specs.Lists.{integers}
 use Rattle.sim_script.specs.Ranges.{IsCallAt, IsScriptOf}
 use Rattle.sim_scenario.specs.AtHome.{IsSendingAt, MayDelay}
@@ -36,6 +37,7 @@ use Rattle.sqs_formats.proofs.Readings.{parts, picked, same_ok}
 use Rattle.sim_scenario.proofs.Admits.{Admits, integer_admits, maybe_admits, maybe_within, optional_admits, optional_within, required_admits, required_read, required_within, seconds_admits}
 use Rattle.sim_scenario.proofs.QueueRanges.{latency_in_range}
 use Rattle.sim_scenario.proofs.GroupsRead.{groups_in_range}
+use Rattle.sim_scenario.proofs.OutagesRead.{outages_in_range}
 use Rattle.sim_scenario.proofs.QuantilesRead.{integers_hold, time_in_range}
 use Rattle.sim_script.proofs.ScriptRanges.{script_in_range}
 
@@ -125,20 +127,39 @@ unfolding stopping
 stop_reads start t s e =
     maybe_admits MayBeMoment (integer start 2592000000) tt (λ place d n e. (integer_admits start 2592000000 place d n e).1) t (codes "stop_ms") s e
 
--- the backoff and the heartbeat of a consumer
-failing_reads : (t : Table) (f : Option (List ℕ) × Option Stretch × Bool × List ℕ × Option ℕ) → failing t ≡ Ok f → All (λ s. s ≤ longest_timeout) f.3 × MayBeHeartbeat f.4
+-- the outages, the backoff and the heartbeat of a consumer
+record FailsInRange (f : Failing) : Type 0 where
+  outages : All IsOutage f.outages
+  backoff : All (λ s. s ≤ longest_timeout) f.backoff
+  heartbeat : MayBeHeartbeat f.heartbeat
+
+failing_reads : (t : Table) (f : Failing) → failing t ≡ Ok f → FailsInRange f
 unfolding failing
 failing_reads t f e =
     let fails_on = parts _ _ _ e in
-    let outage = parts _ _ _ fails_on.2 in
-    let whole = parts _ _ _ outage.2 in
+    let outages = parts _ _ _ fails_on.2 in
+    let whole = parts _ _ _ outages.2 in
     let backoff = parts _ _ _ whole.2 in
-    let heartbeat = parts _ _ _ backoff.2 in
+    let jitter = parts _ _ _ backoff.2 in
+    let heartbeat = parts _ _ _ jitter.2 in
     let waits = integers_hold (λ s. s ≤ longest_timeout) 1 12 0 43200 (λ n h. h.1) in
-    rw (← same_ok _ _ heartbeat.2) (
-      optional_admits (All (λ s. s ≤ longest_timeout)) [] (integers 1 12 0 43200) (All-nil (λ s. s ≤ longest_timeout)) waits t (codes "backoff_s") backoff.0 backoff.1,
-      maybe_admits MayBeHeartbeat (seconds 1 43200) tt (seconds_admits 1 43200) t (codes "heartbeat_s") heartbeat.0 heartbeat.1,
-    )
+    rw (← same_ok _ _ heartbeat.2) (record {
+      outages = outages_in_range t outages.0 outages.1;
+      backoff = optional_admits (All (λ s. s ≤ longest_timeout)) [] (integers 1 12 0 43200) (All-nil (λ s. s ≤ longest_timeout)) waits t (codes "backoff_s") backoff.0 backoff.1;
+      heartbeat = maybe_admits MayBeHeartbeat (seconds 1 43200) tt (seconds_admits 1 43200) t (codes "heartbeat_s") heartbeat.0 heartbeat.1;
+    })
+
+-- what one service is of
+serving_in_range : (once : Bool) (each : ℕ) → each ≤ 86400000 → IsServing (serving_of once each)
+serving_in_range true each h = h
+serving_in_range false each h = tt
+
+serving_reads : (t : Table) (s : Serving) → serving t ≡ Ok s → IsServing s
+unfolding serving
+serving_reads t s e =
+    let once = parts _ _ _ e in
+    let each = parts _ _ _ once.2 in
+    rw (← same_ok _ _ each.2) (serving_in_range once.0 each.0 (optional_within 0 86400000 0 t (codes "service_each_ms") each.0 (lit≤ tt, lit≤ tt) each.1).1)
 
 service_reads : (t : Table) (d : Distribution) → service t ≡ Ok d → IsDistribution d
 unfolding service
@@ -153,10 +174,12 @@ consumer_reads o home t r e =
     let known = parts _ _ _ e in
     let start = parts _ _ _ known.2 in
     let batch = parts _ _ _ start.2 in
-    let wait = parts _ _ _ batch.2 in
+    let gather = parts _ _ _ batch.2 in
+    let wait = parts _ _ _ gather.2 in
     let timeout = parts _ _ _ wait.2 in
     let service = parts _ _ _ timeout.2 in
-    let failures = parts _ _ _ service.2 in
+    let serving = parts _ _ _ service.2 in
+    let failures = parts _ _ _ serving.2 in
     let idle = parts _ _ _ failures.2 in
     let forward = parts _ _ _ idle.2 in
     let stop = parts _ _ _ forward.2 in
@@ -168,15 +191,18 @@ consumer_reads o home t r e =
       record {
         start = (optional_within 0 2592000000 0 t (codes "start_ms") start.0 (lit≤ tt, lit≤ tt) start.1).1;
         batch = optional_within 1 10 1 t (codes "batch") batch.0 (lit≤ tt, lit≤ tt) batch.1;
+        gather = (optional_within 0 300000 0 t (codes "gather_ms") gather.0 (lit≤ tt, lit≤ tt) gather.1).1;
         wait = (optional_within 0 20 0 t (codes "wait_s") wait.0 (lit≤ tt, lit≤ tt) wait.1).1;
         timeout = maybe_within MayBeTimeout longest_timeout t (codes "timeout_s") timeout.0 tt (λ n h. h) timeout.1;
         service = service_reads t service.0 service.1;
+        serving = serving_reads t serving.0 serving.1;
         failures = (optional_within 0 1000 0 t (codes "fail_permille") failures.0 (lit≤ tt, lit≤ tt) failures.1).1;
         idle = optional_within 1 86400000 1000 t (codes "idle_ms") idle.0 (lit≤ tt, lit≤ tt) idle.1;
         forward = onward.1;
         stop = stop_reads start.0 t stop.0 stop.1;
-        backoff = lasting.0;
-        heartbeat = lasting.1;
+        outages = lasting.outages;
+        backoff = lasting.backoff;
+        heartbeat = lasting.heartbeat;
       },
     )
 

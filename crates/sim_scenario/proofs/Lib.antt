@@ -10,6 +10,7 @@ pub mod Exits
 pub mod ListsRead
 pub mod QuantilesRead
 pub mod GroupsRead
+pub mod OutagesRead
 pub mod TopRanges
 pub mod QueueRanges
 pub mod InRange

@@ -52,12 +52,14 @@ list_holds P least most type none h place d xs e =
     let same : length xs ≡ length ds.0 = omega (arith, all.1) in
     (all.0, rw same size)
 
+-- what holds of each item holds of all of them
+pub all_hold : {X : Type 0} (P : X → Type 0) (type : KeyType X) → Admits P type → (least most : ℕ) → Admits (All P) (list_of least most (λ count before. type))
+all_hold P type h least most place d xs e =
+    (list_holds (All P) least most (λ count before. type) (All-nil P) (λ n xs place d x p e. All-append P xs (x ∷ []) p (All-cons P x [] (h place d x e) (All-nil P))) place d xs e).0
+
 -- integers are in their range
 pub integers_hold : (P : ℕ → Type 0) (least most low high : ℕ) → ((n : ℕ) → Between low high n → P n) → Admits (All P) (list_of least most (λ count before. integer low high))
-integers_hold P least most low high h place d ns e =
-    (list_holds (All P) least most (λ count before. integer low high) (All-nil P)
-    (λ n xs place d x p e. All-append P xs (x ∷ []) p (All-cons P x [] (h x (integer_admits low high place d x e)) (All-nil P)))
-    place d ns e).0
+integers_hold P least most low high h = all_hold P (integer low high) (λ place d n e. h n (integer_admits low high place d n e)) least most
 
 -- quantiles that were read so far
 record AreRising (qs : List Quantile) : Type 0 where

@@ -1,6 +1,6 @@
 //! A consumer of a scenario's text.
 ghost use Rattle.std.specs.Prelude.{◌≡◌, map};
-ghost use Rattle.sqs_formats.specs.Actors.{all_consumer_keys, consuming, failing, forward as the_forward, forward_keys, newer_consumer_keys, outage as the_outage, outage_keys, service_keys};
+ghost use Rattle.sqs_formats.specs.Actors.{all_consumer_keys, consuming, failing, forward as the_forward, forward_keys, jitter_keys, newer_consumer_keys, service_keys, serving as the_serving, serving_keys};
 ghost use Rattle.sqs_formats.specs.Keys.{only};
 ghost use Rattle.sim_scenario.specs.Gives.{Gives};
 ghost use Rattle.sim_scenario.specs.Sections.{table_of};
@@ -10,12 +10,13 @@ use crate::fault::ReadError;
 use crate::key_type::{Integer, OneOf, Seconds, SizedText};
 use crate::lists::{Integers, no_integers};
 use crate::named::KinQueue;
+use crate::outages::{outage_keys, outages};
 use crate::outline::Outline;
 use crate::producers::stopping;
 use crate::queues::{latency, latency_keys};
 use crate::section::{ACTOR_KEYS, Section};
-use sqs_message::{Listed, Text};
-use sqs_model::{ConsumerSettings, Forwarding, Role, Stretch};
+use sqs_formats::Failing;
+use sqs_model::{ConsumerSettings, Forwarding, Role, Serving};
 
 /// The keys of every consumer.
 const CONSUMER_KEYS: &[&str] = &[
@@ -52,12 +53,12 @@ fn newer_consumer_keys(version: u64) -> &'static [&'static str]
 {
     if version >= 3 {
         &[
+            "gather_ms",
             "stop_ms",
+            "batch_service",
             "fails_on",
-            "fails_from_ms",
             "batch_fails",
             "backoff_s",
-            "heartbeat_s",
             "copies",
         ]
     } else {
@@ -65,11 +66,28 @@ fn newer_consumer_keys(version: u64) -> &'static [&'static str]
     }
 }
 
-/// The key that a consumer with an outage has, too.
-fn outage_keys(has_outage: bool) -> &'static [&'static str]
-    ensures { map (λ k. k.now) result.now ≡ outage_keys has_outage }
+/// The keys that go with what one service is of, by whether the text says it.
+fn serving_keys(version: u64, says_serving: bool) -> &'static [&'static str]
+    ensures { map (λ k. k.now) result.now ≡ serving_keys version says_serving }
 {
-    if has_outage { &["fails_to_ms"] } else { &[] }
+    if says_serving {
+        &["service_each_ms"]
+    } else if version >= 3 {
+        &["heartbeat_s"]
+    } else {
+        &[]
+    }
+}
+
+/// The key that a consumer with a backoff has, too.
+fn jitter_keys(has_backoff: bool) -> &'static [&'static str]
+    ensures { map (λ k. k.now) result.now ≡ jitter_keys has_backoff }
+{
+    if has_backoff {
+        &["backoff_jitter"]
+    } else {
+        &[]
+    }
 }
 
 /// Checks that a consumer has known keys alone.
@@ -80,8 +98,20 @@ fn known_consumer_keys(version: u64, section: &Section<'_>) -> Result<(), ReadEr
     let service = service_keys(section.has_newer(version, "service"));
     let forward = forward_keys(version, section.has("forward"));
     let newer = newer_consumer_keys(version);
-    let outage = outage_keys(section.has_newer(version, "fails_from_ms"));
-    section.only(&[ACTOR_KEYS, CONSUMER_KEYS, service, forward, newer, outage])
+    let serving = serving_keys(version, section.has_newer(version, "batch_service"));
+    let has_list = section.has_newer(version, "fails_between_ms");
+    let outages = outage_keys(has_list, section.has_newer(version, "fails_from_ms"));
+    let jitter = jitter_keys(section.has_newer(version, "backoff_s"));
+    section.only(&[
+        ACTOR_KEYS,
+        CONSUMER_KEYS,
+        service,
+        forward,
+        newer,
+        serving,
+        outages,
+        jitter,
+    ])
 }
 
 /// The queue to which a consumer forwards, if it does.
@@ -103,21 +133,24 @@ fn forward(
     Ok(Some(Forwarding { to, latency }))
 }
 
-/// When each service that ends fails, if there is such a time.
-#[tactic(auto, unfolding(sqs_formats::specs::Actors::outage, sqs_formats::specs::Reading::and_then))]
-fn outage(has_outage: bool, section: &Section<'_>) -> Result<Option<Stretch>, ReadError>
-    ensures { Gives (λ o. o) result (the_outage has_outage (table_of section.now)) }
-{
-    if !has_outage {
-        return Ok(None);
-    }
-    let from = section.required("fails_from_ms", &Integer(0, 2_592_000_000))?;
-    let to = section.required("fails_to_ms", &Integer(from, 2_592_000_000))?;
-    Ok(Some(Stretch { from, to }))
-}
-
-/// A failed service fails its message alone.
+/// Each message of a batch is served by itself, or fails by itself.
 const EACH: bool = false;
+
+/// All messages of a batch are served at once.
+const ONCE: bool = true;
+
+/// What one service is of, by its name.
+const SERVINGS: &[(&str, bool)] = &[("each", EACH), ("once", ONCE)];
+
+/// What one service is of.
+#[tactic(auto, unfolding(sqs_formats::specs::Actors::serving, sqs_formats::specs::Reading::and_then))]
+fn serving(section: &Section<'_>) -> Result<Serving, ReadError>
+    ensures { Gives (λ s. s) result (the_serving (table_of section.now)) }
+{
+    let once = section.optional("batch_service", &OneOf(SERVINGS), EACH)?;
+    let each = section.optional("service_each_ms", &Integer(0, 86_400_000), 0)?;
+    Ok(if once { Serving::Once { each } } else { Serving::Each })
+}
 
 /// A failed service fails its batch as a whole.
 const WHOLE: bool = true;
@@ -125,28 +158,35 @@ const WHOLE: bool = true;
 /// What a failed service fails, by its name.
 const FAILURES: &[(&str, bool)] = &[("each", EACH), ("whole", WHOLE)];
 
-/// What version 3 says of services that fail and of changes of visibility.
-type Failing = (
-    Option<Text>,
-    Option<Stretch>,
-    bool,
-    Listed<u64>,
-    Option<u64>,
-);
+/// A timeout of the backoff is not drawn.
+const NONE: bool = false;
 
-/// Which services fail, and what follows: the text, the outage, whether the whole batch fails, the
-/// backoff, and the heartbeat.
+/// A timeout of the backoff is drawn from 0 on.
+const FULL: bool = true;
+
+/// Whether a timeout of the backoff is drawn, by its name.
+const JITTERS: &[(&str, bool)] = &[("none", NONE), ("full", FULL)];
+
+/// Which services fail, and what follows.
 #[tactic(auto, unfolding(sqs_formats::specs::Actors::failing, sqs_formats::specs::Reading::and_then))]
 fn failing(section: &Section<'_>) -> Result<Failing, ReadError>
     ensures { Gives (λ f. f) result (failing (table_of section.now)) }
 {
     let fails_on = section.maybe("fails_on", &SizedText(1, 128))?;
-    let outage = outage(section.has("fails_from_ms"), section)?;
+    let outages = outages(section)?;
     let whole = section.optional("batch_fails", &OneOf(FAILURES), EACH)?;
     let none = no_integers(section.alloc);
     let backoff = section.optional("backoff_s", &Integers(1, 12, 0, 43_200), none)?;
+    let jitter = section.optional("backoff_jitter", &OneOf(JITTERS), NONE)?;
     let heartbeat = section.maybe("heartbeat_s", &Seconds(1, 43_200))?;
-    Ok((fails_on, outage, whole, backoff, heartbeat))
+    Ok(Failing {
+        fails_on,
+        outages,
+        whole,
+        backoff,
+        jitter,
+        heartbeat,
+    })
 }
 
 /// A consumer of a queue.
@@ -161,28 +201,33 @@ pub(crate) fn consumer(
     known_consumer_keys(outline.version(), section)?;
     let start = section.optional("start_ms", &Integer(0, 2_592_000_000), 0)?;
     let batch = section.optional("batch", &Integer(1, 10), 1)?;
+    let gather = section.optional("gather_ms", &Integer(0, 300_000), 0)?;
     let wait = section.optional("wait_s", &Integer(0, 20), 0)?;
     let timeout = section.maybe("timeout_s", &Integer(0, 43_200))?;
     let service = time("service", "service_min_ms", "service_max_ms", section)?;
+    let serving = serving(section)?;
     let fail_permille = section.optional("fail_permille", &Integer(0, 1000), 0)?;
     let idle = section.optional("idle_ms", &Integer(1, 86_400_000), 1000)?;
     let forward = forward(section.has("forward"), outline, home, section)?;
     let stop = stopping(start, section)?;
-    let (fails_on, outage, whole, backoff, heartbeat) = failing(section)?;
+    let fails = failing(section)?;
     Ok(Role::Consumer(ConsumerSettings {
         start,
         batch,
+        gather,
         wait,
         timeout,
         service,
+        serving,
         fail_permille,
         idle,
         forward,
         stop,
-        fails_on,
-        outage,
-        whole,
-        backoff,
-        heartbeat,
+        fails_on: fails.fails_on,
+        outages: fails.outages,
+        whole: fails.whole,
+        backoff: fails.backoff,
+        jitter: fails.jitter,
+        heartbeat: fails.heartbeat,
     }))
 }

@@ -14,6 +14,7 @@ mod key_type;
 mod lists;
 mod named;
 mod names;
+mod outages;
 mod outline;
 mod place;
 mod producers;

@@ -1,6 +1,7 @@
 -- A receive, whose queue is the site's before its rows are made.
-use Rattle.std.proofs.Common.{◌≡◌, ℕ, ◌==◌, Bool, true, false, List, [], ◌∷◌, ◌++◌, Option, refl, ap, sym, subst, ◌∙◌, map, take, min, if◌then◌else◌, nat_le, ◌&&◌}
+use Rattle.std.proofs.Common.{◌≡◌, ◌≤◌, ℕ, ◌==◌, arith, length, suc, Bool, true, false, List, [], ◌∷◌, ◌++◌, Option, refl, ap, sym, subst, ◌∙◌, map, take, min, if◌then◌else◌, nat_le, ◌&&◌}
 use Rattle.std.specs.Prelude.{Err, Ok, Result}
+use Rattle.std.proofs.lemmas.List.{length-take}
 use Rattle.sim_clock.specs.declared.key.Key.{Key}
 use Rattle.sim_clock.specs.declared.refusal.Refusal.{Refusal}
 use Rattle.sim_clock.specs.declared.refusal.Refusal.TheVariants as refusals
@@ -15,7 +16,7 @@ use Rattle.sqs_model.specs.Draw.{Draws}
 use Rattle.sim_site.proofs.Carried.{did_say}
 use Rattle.sqs_model.specs.Available.{all_hosts, available}
 use Rattle.sqs_model.specs.Queue.{Queue, in_flight, room}
-use Rattle.sqs_model.specs.Receive.{answered, give, is_bad_timeout, receive, timeout_of}
+use Rattle.sqs_model.specs.Receive.{answered, give, given_one, is_bad_timeout, receive, timeout_of, to_give}
 use Rattle.sqs_model.specs.Site.{Core, Effect, and_then, with_queue}
 use Rattle.sqs_model.proofs.Branches.{either}
 use Rattle.sim_site.specs.Effects.{DidMake, Effects}
@@ -87,3 +88,21 @@ module _ (key : Key) (a : Actor) (c : Core) (max : ℕ) (timeout : Option ℕ) w
   short_refused before after hosts sampled start draws e x h rows sent row =
       rw (ap (receive_made key a c (record c { draws = draws }) max 0 timeout) h)
       (record { effect = did_say before after c c x (receive_row key c a.number (answers.Refused e)) rows sent refl row; answer = refl })
+
+-- a receive returns as many messages as it gives
+gives_each : (now timeout : ℕ) (ms : List Message) (q : Queue) → length (give now timeout ms q).1 ≡ length ms
+gives_each now timeout [] q = refl
+gives_each now timeout (m ∷ ms) q = ap suc (gives_each now timeout ms (given_one q now timeout m).0)
+
+-- no more than the in-flight limit of the queue lets it
+abbrev IsFew : Queue → Result (List Got) Refusal × Queue → Type 0
+IsFew q x = (gots : List Got) → x.0 ≡ Ok gots → length gots ≤ q.settings.in_flight_limit
+
+few_given : (q : Queue) (now timeout max set : ℕ) → IsFew q (answered (give now timeout (to_give q max set) q))
+few_given q now timeout max set gots e =
+    let same : (give now timeout (to_give q max set) q).1 ≡ gots = cc in
+    omega (arith, ap length same, gives_each now timeout (to_give q max set) q, length-take (min max (room q)) (available q set))
+
+pub receive_few : (q : Queue) (now max : ℕ) (timeout : Option ℕ) (set : ℕ) (short : Bool) → IsFew q (receive q now max timeout set short)
+receive_few q now max timeout set short =
+    either (IsFew q) (is_bad_timeout timeout) _ _ (λ gots e. cc) (either (IsFew q) (short && nat_le q.settings.in_flight_limit (in_flight q)) _ _ (λ gots e. cc) (few_given q now (timeout_of q timeout) max set))

@@ -1,5 +1,5 @@
 -- No act of an actor waits for longer than its settings let it.
-use Rattle.std.proofs.Common.{ℕ, ◌≤◌, List, [], ◌∷◌, Option}
+use Rattle.std.proofs.Common.{arith, ℕ, ◌≤◌, List, [], ◌∷◌, Option}
 use Rattle.std.specs.Prelude.{All, drop, nat_lt}
 use Rattle.std.proofs.lemmas.List.Elements.{All-head, All-drop}
 use Rattle.sqs_message.specs.declared.calls.ScriptCall.{ScriptCall}
@@ -13,7 +13,7 @@ use Rattle.sqs_model.specs.declared.agents.ProducerSettings.{ProducerSettings}
 use Rattle.sqs_model.specs.declared.agents.Role.{Role}
 use Rattle.sqs_model.specs.declared.agents.Role.TheVariants.{Consumer, Producer, Script}
 use Rattle.sqs_redrive.specs.declared.answers.Got.{Got}
-use Rattle.sqs_model.specs.Actor.{Actor, Asked, Beat, Ended, Failed, Served, LastAct, consumer_got, consumer_told, consumer_wake, has_come, has_failed, next, next_as, producer_sent, script_wake, wakes_after, woken}
+use Rattle.sqs_model.specs.Actor.{Actor, Asked, Beat, Ended, Failed, Gathered, Served, LastAct, consumer_told, consumer_wake, got_more, has_come, has_failed, next, next_as, producer_sent, script_wake, wakes_after, woken}
 use Rattle.sqs_model.specs.Draw.{drawn_time}
 use Rattle.sqs_model.proofs.Branches.{either}
 use Rattle.sqs_model.proofs.ConsumerWakes.{IsServiceAct, consumer_woke}
@@ -29,15 +29,17 @@ producer_waits a p now =
 
 -- what a consumer does when it wakes waits for no longer than its settings say
 service_waits : (now : ℕ) (b : Actor) (wait : ℕ) (f : Option Forwarding) (act : Act) → wait ≤ most_wait → IsServiceAct now b wait f act → WaitsShortly act
-service_waits now b wait f (acts.Receive most waits timeout) h k = rw k h
+service_waits now b wait f (acts.Receive most waits timeout) h k = omega (arith, h, k)
 service_waits now b wait f act h k = tt
 
 wake_waits : (a : Actor) (c : ConsumerSettings) (now : ℕ) (gs : List Got) → HasShortWaits (Consumer c) → WaitsShortly (consumer_wake a c now gs).0
 wake_waits a c now gs h = service_waits now a c.wait c.forward (consumer_wake a c now gs).0 h (consumer_woke now a c gs).act
 
-got_waits : (a : Actor) (c : ConsumerSettings) (now : ℕ) (gs : List Got) → WaitsShortly (consumer_got a c now gs).0
-got_waits a c now [] = tt
-got_waits a c now (g ∷ gs) = tt
+got_waits : (held : List Got) (a : Actor) (c : ConsumerSettings) (now : ℕ) (gs : List Got) → WaitsShortly (got_more held a c now gs).0
+got_waits [] a c now [] = tt
+got_waits [] a c now (g ∷ gs) = tt
+got_waits (h ∷ hs) a c now [] = tt
+got_waits (h ∷ hs) a c now (g ∷ gs) = tt
 
 failed_waits : (a : Actor) (c : ConsumerSettings) (now : ℕ) (gs : List Got) → WaitsShortly (has_failed a c now gs).0
 failed_waits a c now [] = tt
@@ -45,6 +47,7 @@ failed_waits a c now (g ∷ gs) = tt
 
 told_waits : (a : Actor) (c : ConsumerSettings) (now : ℕ) (last_act : LastAct) → WaitsShortly (consumer_told a c now last_act).0
 told_waits a c now Asked = tt
+told_waits a c now Gathered = tt
 told_waits a c now (Served receipt) = tt
 told_waits a c now Ended = tt
 told_waits a c now Failed = failed_waits a c now a.failed
@@ -57,7 +60,7 @@ role_waits (Producer p) a now told_by.Wake h = either (λ (x : Act × Actor). Wa
 role_waits (Producer p) a now told_by.Other h = producer_waits a p now
 role_waits (Producer p) a now answer h = tt
 role_waits (Consumer c) a now told_by.Wake h = wake_waits (woken a) c now a.held h
-role_waits (Consumer c) a now (told_by.Got gots) h = got_waits a c now gots
+role_waits (Consumer c) a now (told_by.Got gots) h = got_waits a.held a c now gots
 role_waits (Consumer c) a now told_by.Waiting h = tt
 role_waits (Consumer c) a now told_by.Other h = told_waits a c now a.last_act
 

@@ -22,6 +22,30 @@ case_0_backoff_over_12_hours : shown_upto 3 0 [] (codes "version = 3\nhorizon = 
 unfolding reading_on_literals running_on_literals columns_of
 case_0_backoff_over_12_hours = refl
 
+-- faults-3/batch_service_after_the_service.toml
+case_0_batch_service_after_the_service : shown_upto 3 0 [] (codes "version = 3\nhorizon = 1000\n[[queue]]\nname = \"q\"\n[[queue]]\nname = \"f.fifo\"\n[[actor]]\nname = \"c\"\nkind = \"consumer\"\nqueue = \"q\"\nservice_min_ms = 1\nservice_max_ms = 0\nbatch_service = \"twice\"\n")
+    ≡ refused (codes "refused 14 OutOfRange at actor[0].service_max_ms\n")
+unfolding reading_on_literals running_on_literals columns_of
+case_0_batch_service_after_the_service = refl
+
+-- faults-3/batch_service_in_version_two.toml
+case_0_batch_service_in_version_two : shown_upto 3 0 [] (codes "version = 2\nhorizon = 1000\n[[queue]]\nname = \"q\"\n[[queue]]\nname = \"f.fifo\"\n[[actor]]\nname = \"c\"\nkind = \"consumer\"\nqueue = \"q\"\nservice_min_ms = 1\nservice_max_ms = 1\nbatch_service = \"once\"\n")
+    ≡ refused (codes "refused 11 UnknownKey at actor[0].batch_service\n")
+unfolding reading_on_literals running_on_literals columns_of
+case_0_batch_service_in_version_two = refl
+
+-- faults-3/batch_service_of_another_word.toml
+case_0_batch_service_of_another_word : shown_upto 3 0 [] (codes "version = 3\nhorizon = 1000\n[[queue]]\nname = \"q\"\n[[queue]]\nname = \"f.fifo\"\n[[actor]]\nname = \"c\"\nkind = \"consumer\"\nqueue = \"q\"\nservice_min_ms = 1\nservice_max_ms = 1\nbatch_service = \"twice\"\n")
+    ≡ refused (codes "refused 14 OutOfRange at actor[0].batch_service\n")
+unfolding reading_on_literals running_on_literals columns_of
+case_0_batch_service_of_another_word = refl
+
+-- faults-3/batch_service_that_is_no_text.toml
+case_0_batch_service_that_is_no_text : shown_upto 3 0 [] (codes "version = 3\nhorizon = 1000\n[[queue]]\nname = \"q\"\n[[queue]]\nname = \"f.fifo\"\n[[actor]]\nname = \"c\"\nkind = \"consumer\"\nqueue = \"q\"\nservice_min_ms = 1\nservice_max_ms = 1\nbatch_service = 1\n")
+    ≡ refused (codes "refused 13 WrongType at actor[0].batch_service\n")
+unfolding reading_on_literals running_on_literals columns_of
+case_0_batch_service_that_is_no_text = refl
+
 -- faults-3/batch_that_fails_in_part.toml
 case_0_batch_that_fails_in_part : shown_upto 3 0 [] (codes "version = 3\nhorizon = 1000\n[[queue]]\nname = \"q\"\n[[queue]]\nname = \"f.fifo\"\n[[actor]]\nname = \"c\"\nkind = \"consumer\"\nqueue = \"q\"\nservice_min_ms = 1\nservice_max_ms = 1\nbatch_fails = \"some\"\n")
     ≡ refused (codes "refused 14 OutOfRange at actor[0].batch_fails\n")
@@ -39,6 +63,24 @@ case_0_bounds_of_a_gap_beside_quantiles : shown_upto 3 0 [] (codes "version = 3\
     ≡ refused (codes "refused 11 UnknownKey at actor[0].gap_max_ms\n")
 unfolding reading_on_literals running_on_literals columns_of
 case_0_bounds_of_a_gap_beside_quantiles = refl
+
+-- faults-3/chance_of_an_outage_over_1000.toml
+case_0_chance_of_an_outage_over_1000 : shown_upto 3 0 [] (codes "version = 3\nhorizon = 1000\n[[queue]]\nname = \"q\"\n[[queue]]\nname = \"f.fifo\"\n[[actor]]\nname = \"c\"\nkind = \"consumer\"\nqueue = \"q\"\nservice_min_ms = 1\nservice_max_ms = 1\nfails_from_ms = 1\nfails_to_ms = 2\nfails_permille = 1001\n")
+    ≡ refused (codes "refused 14 OutOfRange at actor[0].fails_permille\n")
+unfolding reading_on_literals running_on_literals columns_of
+case_0_chance_of_an_outage_over_1000 = refl
+
+-- faults-3/chance_of_an_outage_without_one.toml
+case_0_chance_of_an_outage_without_one : shown_upto 3 0 [] (codes "version = 3\nhorizon = 1000\n[[queue]]\nname = \"q\"\n[[queue]]\nname = \"f.fifo\"\n[[actor]]\nname = \"c\"\nkind = \"consumer\"\nqueue = \"q\"\nservice_min_ms = 1\nservice_max_ms = 1\nfails_permille = 500\nfail_permille = 5\n")
+    ≡ refused (codes "refused 11 UnknownKey at actor[0].fails_permille\n")
+unfolding reading_on_literals running_on_literals columns_of
+case_0_chance_of_an_outage_without_one = refl
+
+-- faults-3/chance_of_outages_over_1000.toml
+case_0_chance_of_outages_over_1000 : shown_upto 3 0 [] (codes "version = 3\nhorizon = 1000\n[[queue]]\nname = \"q\"\n[[queue]]\nname = \"f.fifo\"\n[[actor]]\nname = \"c\"\nkind = \"consumer\"\nqueue = \"q\"\nservice_min_ms = 1\nservice_max_ms = 1\nfails_between_ms = [[1, 2]]\nfails_permille = 1001\nbatch_fails = \"some\"\n")
+    ≡ refused (codes "refused 14 OutOfRange at actor[0].fails_permille\n")
+unfolding reading_on_literals running_on_literals columns_of
+case_0_chance_of_outages_over_1000 = refl
 
 -- faults-3/copies_after_the_other_keys.toml
 case_0_copies_after_the_other_keys : shown_upto 3 0 [] (codes "version = 3\nhorizon = 1000\n[[queue]]\nname = \"q\"\n[[queue]]\nname = \"f.fifo\"\n[[actor]]\nname = \"c\"\nkind = \"consumer\"\nqueue = \"q\"\nservice_min_ms = 1\nservice_max_ms = 1\ncopies = 0\nheartbeat_s = 0\n")
@@ -87,6 +129,12 @@ case_0_copy_named_as_an_earlier_actor : shown_upto 3 0 [] (codes "version = 3\nh
     ≡ refused (codes "refused 16 NameTwice at actor[1].copies\n")
 unfolding reading_on_literals running_on_literals columns_of
 case_0_copy_named_as_an_earlier_actor = refl
+
+-- faults-3/end_of_an_outage_beside_outages.toml
+case_0_end_of_an_outage_beside_outages : shown_upto 3 0 [] (codes "version = 3\nhorizon = 1000\n[[queue]]\nname = \"q\"\n[[queue]]\nname = \"f.fifo\"\n[[actor]]\nname = \"c\"\nkind = \"consumer\"\nqueue = \"q\"\nservice_min_ms = 1\nservice_max_ms = 1\nfails_between_ms = [[1, 2]]\nfails_to_ms = 1\n")
+    ≡ refused (codes "refused 11 UnknownKey at actor[0].fails_to_ms\n")
+unfolding reading_on_literals running_on_literals columns_of
+case_0_end_of_an_outage_beside_outages = refl
 
 -- faults-3/equal_permilles.toml
 case_0_equal_permilles : shown_upto 3 0 [] (codes "version = 3\nhorizon = 1000\n[[queue]]\nname = \"q\"\n[[queue]]\nname = \"f.fifo\"\n[[actor]]\nname = \"c\"\nkind = \"consumer\"\nqueue = \"q\"\nservice = [[0, 1], [500, 1], [500, 2], [1000, 3]]\n")
@@ -154,6 +202,12 @@ case_0_groups_beside_weights : shown_upto 3 0 [] (codes "version = 3\nhorizon = 
 unfolding reading_on_literals running_on_literals columns_of
 case_0_groups_beside_weights = refl
 
+-- faults-3/heartbeat_beside_a_batch_service.toml
+case_0_heartbeat_beside_a_batch_service : shown_upto 3 0 [] (codes "version = 3\nhorizon = 1000\n[[queue]]\nname = \"q\"\n[[queue]]\nname = \"f.fifo\"\n[[actor]]\nname = \"c\"\nkind = \"consumer\"\nqueue = \"q\"\nservice_min_ms = 1\nservice_max_ms = 1\nbatch_service = \"each\"\nheartbeat_s = 1\n")
+    ≡ refused (codes "refused 11 UnknownKey at actor[0].heartbeat_s\n")
+unfolding reading_on_literals running_on_literals columns_of
+case_0_heartbeat_beside_a_batch_service = refl
+
 -- faults-3/heartbeat_of_zero.toml
 case_0_heartbeat_of_zero : shown_upto 3 0 [] (codes "version = 3\nhorizon = 1000\n[[queue]]\nname = \"q\"\n[[queue]]\nname = \"f.fifo\"\n[[actor]]\nname = \"c\"\nkind = \"consumer\"\nqueue = \"q\"\nservice_min_ms = 1\nservice_max_ms = 1\nheartbeat_s = 0\n")
     ≡ refused (codes "refused 14 OutOfRange at actor[0].heartbeat_s\n")
@@ -165,6 +219,30 @@ case_0_heartbeat_over_12_hours : shown_upto 3 0 [] (codes "version = 3\nhorizon 
     ≡ refused (codes "refused 14 OutOfRange at actor[0].heartbeat_s\n")
 unfolding reading_on_literals running_on_literals columns_of
 case_0_heartbeat_over_12_hours = refl
+
+-- faults-3/jitter_after_its_backoff.toml
+case_0_jitter_after_its_backoff : shown_upto 3 0 [] (codes "version = 3\nhorizon = 1000\n[[queue]]\nname = \"q\"\n[[queue]]\nname = \"f.fifo\"\n[[actor]]\nname = \"c\"\nkind = \"consumer\"\nqueue = \"q\"\nservice_min_ms = 1\nservice_max_ms = 1\nbackoff_s = [-1]\nbackoff_jitter = \"equal\"\n")
+    ≡ refused (codes "refused 14 OutOfRange at actor[0].backoff_s[0]\n")
+unfolding reading_on_literals running_on_literals columns_of
+case_0_jitter_after_its_backoff = refl
+
+-- faults-3/jitter_before_the_heartbeat.toml
+case_0_jitter_before_the_heartbeat : shown_upto 3 0 [] (codes "version = 3\nhorizon = 1000\n[[queue]]\nname = \"q\"\n[[queue]]\nname = \"f.fifo\"\n[[actor]]\nname = \"c\"\nkind = \"consumer\"\nqueue = \"q\"\nservice_min_ms = 1\nservice_max_ms = 1\nbackoff_s = [1]\nbackoff_jitter = \"equal\"\nheartbeat_s = 0\n")
+    ≡ refused (codes "refused 14 OutOfRange at actor[0].backoff_jitter\n")
+unfolding reading_on_literals running_on_literals columns_of
+case_0_jitter_before_the_heartbeat = refl
+
+-- faults-3/jitter_of_another_word.toml
+case_0_jitter_of_another_word : shown_upto 3 0 [] (codes "version = 3\nhorizon = 1000\n[[queue]]\nname = \"q\"\n[[queue]]\nname = \"f.fifo\"\n[[actor]]\nname = \"c\"\nkind = \"consumer\"\nqueue = \"q\"\nservice_min_ms = 1\nservice_max_ms = 1\nbackoff_s = [1]\nbackoff_jitter = \"equal\"\n")
+    ≡ refused (codes "refused 14 OutOfRange at actor[0].backoff_jitter\n")
+unfolding reading_on_literals running_on_literals columns_of
+case_0_jitter_of_another_word = refl
+
+-- faults-3/jitter_without_a_backoff.toml
+case_0_jitter_without_a_backoff : shown_upto 3 0 [] (codes "version = 3\nhorizon = 1000\n[[queue]]\nname = \"q\"\n[[queue]]\nname = \"f.fifo\"\n[[actor]]\nname = \"c\"\nkind = \"consumer\"\nqueue = \"q\"\nservice_min_ms = 1\nservice_max_ms = 1\nbackoff_jitter = \"full\"\n")
+    ≡ refused (codes "refused 11 UnknownKey at actor[0].backoff_jitter\n")
+unfolding reading_on_literals running_on_literals columns_of
+case_0_jitter_without_a_backoff = refl
 
 -- faults-3/last_permille_not_a_thousand.toml
 case_0_last_permille_not_a_thousand : shown_upto 3 0 [] (codes "version = 3\nhorizon = 1000\n[[queue]]\nname = \"q\"\n[[queue]]\nname = \"f.fifo\"\n[[actor]]\nname = \"c\"\nkind = \"consumer\"\nqueue = \"q\"\nservice = [[0, 1], [999, 2]]\n")
@@ -250,6 +328,36 @@ case_0_one_quantile : shown_upto 3 0 [] (codes "version = 3\nhorizon = 1000\n[[q
 unfolding reading_on_literals running_on_literals columns_of
 case_0_one_quantile = refl
 
+-- faults-3/outage_beside_outages.toml
+case_0_outage_beside_outages : shown_upto 3 0 [] (codes "version = 3\nhorizon = 1000\n[[queue]]\nname = \"q\"\n[[queue]]\nname = \"f.fifo\"\n[[actor]]\nname = \"c\"\nkind = \"consumer\"\nqueue = \"q\"\nservice_min_ms = 1\nservice_max_ms = 1\nfails_between_ms = [[1, 2]]\nfails_from_ms = 1\n")
+    ≡ refused (codes "refused 11 UnknownKey at actor[0].fails_from_ms\n")
+unfolding reading_on_literals running_on_literals columns_of
+case_0_outage_beside_outages = refl
+
+-- faults-3/outage_of_a_list_before_0.toml
+case_0_outage_of_a_list_before_0 : shown_upto 3 0 [] (codes "version = 3\nhorizon = 1000\n[[queue]]\nname = \"q\"\n[[queue]]\nname = \"f.fifo\"\n[[actor]]\nname = \"c\"\nkind = \"consumer\"\nqueue = \"q\"\nservice_min_ms = 1\nservice_max_ms = 1\nfails_between_ms = [[-1, 5]]\n")
+    ≡ refused (codes "refused 14 OutOfRange at actor[0].fails_between_ms[0]\n")
+unfolding reading_on_literals running_on_literals columns_of
+case_0_outage_of_a_list_before_0 = refl
+
+-- faults-3/outage_of_a_list_of_one_number.toml
+case_0_outage_of_a_list_of_one_number : shown_upto 3 0 [] (codes "version = 3\nhorizon = 1000\n[[queue]]\nname = \"q\"\n[[queue]]\nname = \"f.fifo\"\n[[actor]]\nname = \"c\"\nkind = \"consumer\"\nqueue = \"q\"\nservice_min_ms = 1\nservice_max_ms = 1\nfails_between_ms = [[1, 2], [5]]\n")
+    ≡ refused (codes "refused 14 OutOfRange at actor[0].fails_between_ms[1]\n")
+unfolding reading_on_literals running_on_literals columns_of
+case_0_outage_of_a_list_of_one_number = refl
+
+-- faults-3/outage_of_a_list_past_30_days.toml
+case_0_outage_of_a_list_past_30_days : shown_upto 3 0 [] (codes "version = 3\nhorizon = 1000\n[[queue]]\nname = \"q\"\n[[queue]]\nname = \"f.fifo\"\n[[actor]]\nname = \"c\"\nkind = \"consumer\"\nqueue = \"q\"\nservice_min_ms = 1\nservice_max_ms = 1\nfails_between_ms = [[0, 2592000001]]\n")
+    ≡ refused (codes "refused 14 OutOfRange at actor[0].fails_between_ms[0]\n")
+unfolding reading_on_literals running_on_literals columns_of
+case_0_outage_of_a_list_past_30_days = refl
+
+-- faults-3/outage_of_a_list_that_ends_before_it_begins.toml
+case_0_outage_of_a_list_that_ends_before_it_begins : shown_upto 3 0 [] (codes "version = 3\nhorizon = 1000\n[[queue]]\nname = \"q\"\n[[queue]]\nname = \"f.fifo\"\n[[actor]]\nname = \"c\"\nkind = \"consumer\"\nqueue = \"q\"\nservice_min_ms = 1\nservice_max_ms = 1\nfails_between_ms = [[1, 2], [9, 8]]\n")
+    ≡ refused (codes "refused 14 OutOfRange at actor[0].fails_between_ms[1]\n")
+unfolding reading_on_literals running_on_literals columns_of
+case_0_outage_of_a_list_that_ends_before_it_begins = refl
+
 -- faults-3/outage_that_ends_before_it_begins.toml
 case_0_outage_that_ends_before_it_begins : shown_upto 3 0 [] (codes "version = 3\nhorizon = 1000\n[[queue]]\nname = \"q\"\n[[queue]]\nname = \"f.fifo\"\n[[actor]]\nname = \"c\"\nkind = \"consumer\"\nqueue = \"q\"\nservice_min_ms = 1\nservice_max_ms = 1\nfails_from_ms = 5\nfails_to_ms = 4\n")
     ≡ refused (codes "refused 14 OutOfRange at actor[0].fails_to_ms\n")
@@ -267,6 +375,36 @@ case_0_outage_without_an_end : shown_upto 3 0 [] (codes "version = 3\nhorizon = 
     ≡ refused (codes "refused 12 MissingKey at actor[0].fails_to_ms\n")
 unfolding reading_on_literals running_on_literals columns_of
 case_0_outage_without_an_end = refl
+
+-- faults-3/outages_before_their_chance.toml
+case_0_outages_before_their_chance : shown_upto 3 0 [] (codes "version = 3\nhorizon = 1000\n[[queue]]\nname = \"q\"\n[[queue]]\nname = \"f.fifo\"\n[[actor]]\nname = \"c\"\nkind = \"consumer\"\nqueue = \"q\"\nservice_min_ms = 1\nservice_max_ms = 1\nfails_permille = -1\nfails_between_ms = [[2, 1]]\n")
+    ≡ refused (codes "refused 14 OutOfRange at actor[0].fails_between_ms[0]\n")
+unfolding reading_on_literals running_on_literals columns_of
+case_0_outages_before_their_chance = refl
+
+-- faults-3/outages_in_version_two.toml
+case_0_outages_in_version_two : shown_upto 3 0 [] (codes "version = 2\nhorizon = 1000\n[[queue]]\nname = \"q\"\n[[queue]]\nname = \"f.fifo\"\n[[actor]]\nname = \"c\"\nkind = \"consumer\"\nqueue = \"q\"\nservice_min_ms = 1\nservice_max_ms = 1\nfails_between_ms = [[1, 2]]\n")
+    ≡ refused (codes "refused 11 UnknownKey at actor[0].fails_between_ms\n")
+unfolding reading_on_literals running_on_literals columns_of
+case_0_outages_in_version_two = refl
+
+-- faults-3/outages_of_33.toml
+case_0_outages_of_33 : shown_upto 3 0 [] (codes "version = 3\nhorizon = 1000\n[[queue]]\nname = \"q\"\n[[queue]]\nname = \"f.fifo\"\n[[actor]]\nname = \"c\"\nkind = \"consumer\"\nqueue = \"q\"\nservice_min_ms = 1\nservice_max_ms = 1\nfails_between_ms = [[1, 2], [1, 2], [1, 2], [1, 2], [1, 2], [1, 2], [1, 2], [1, 2], [1, 2], [1, 2], [1, 2], [1, 2], [1, 2], [1, 2], [1, 2], [1, 2], [1, 2], [1, 2], [1, 2], [1, 2], [1, 2], [1, 2], [1, 2], [1, 2], [1, 2], [1, 2], [1, 2], [1, 2], [1, 2], [1, 2], [1, 2], [1, 2], [1, 2]]\n")
+    ≡ refused (codes "refused 19 TooMany at actor[0].fails_between_ms\n")
+unfolding reading_on_literals running_on_literals columns_of
+case_0_outages_of_33 = refl
+
+-- faults-3/outages_that_are_no_list.toml
+case_0_outages_that_are_no_list : shown_upto 3 0 [] (codes "version = 3\nhorizon = 1000\n[[queue]]\nname = \"q\"\n[[queue]]\nname = \"f.fifo\"\n[[actor]]\nname = \"c\"\nkind = \"consumer\"\nqueue = \"q\"\nservice_min_ms = 1\nservice_max_ms = 1\nfails_between_ms = 5\n")
+    ≡ refused (codes "refused 13 WrongType at actor[0].fails_between_ms\n")
+unfolding reading_on_literals running_on_literals columns_of
+case_0_outages_that_are_no_list = refl
+
+-- faults-3/outages_that_are_none.toml
+case_0_outages_that_are_none : shown_upto 3 0 [] (codes "version = 3\nhorizon = 1000\n[[queue]]\nname = \"q\"\n[[queue]]\nname = \"f.fifo\"\n[[actor]]\nname = \"c\"\nkind = \"consumer\"\nqueue = \"q\"\nservice_min_ms = 1\nservice_max_ms = 1\nfails_between_ms = []\n")
+    ≡ refused (codes "refused 14 OutOfRange at actor[0].fails_between_ms\n")
+unfolding reading_on_literals running_on_literals columns_of
+case_0_outages_that_are_none = refl
 
 -- faults-3/pair_of_three_values.toml
 case_0_pair_of_three_values : shown_upto 3 0 [] (codes "version = 3\nhorizon = 1000\n[[queue]]\nname = \"q\"\n[[queue]]\nname = \"f.fifo\"\n[[actor]]\nname = \"c\"\nkind = \"consumer\"\nqueue = \"q\"\nservice = [[0, 1], [500, 2, 3], [1000, 4]]\n")
@@ -357,6 +495,24 @@ case_0_thousand_before_the_last_permille : shown_upto 3 0 [] (codes "version = 3
     ≡ refused (codes "refused 14 OutOfRange at actor[0].service[1]\n")
 unfolding reading_on_literals running_on_literals columns_of
 case_0_thousand_before_the_last_permille = refl
+
+-- faults-3/time_of_each_before_the_chance.toml
+case_0_time_of_each_before_the_chance : shown_upto 3 0 [] (codes "version = 3\nhorizon = 1000\n[[queue]]\nname = \"q\"\n[[queue]]\nname = \"f.fifo\"\n[[actor]]\nname = \"c\"\nkind = \"consumer\"\nqueue = \"q\"\nservice_min_ms = 1\nservice_max_ms = 1\nfail_permille = 1001\nbatch_service = \"once\"\nservice_each_ms = -1\n")
+    ≡ refused (codes "refused 14 OutOfRange at actor[0].service_each_ms\n")
+unfolding reading_on_literals running_on_literals columns_of
+case_0_time_of_each_before_the_chance = refl
+
+-- faults-3/time_of_each_over_a_day.toml
+case_0_time_of_each_over_a_day : shown_upto 3 0 [] (codes "version = 3\nhorizon = 1000\n[[queue]]\nname = \"q\"\n[[queue]]\nname = \"f.fifo\"\n[[actor]]\nname = \"c\"\nkind = \"consumer\"\nqueue = \"q\"\nservice_min_ms = 1\nservice_max_ms = 1\nbatch_service = \"once\"\nservice_each_ms = 86400001\n")
+    ≡ refused (codes "refused 14 OutOfRange at actor[0].service_each_ms\n")
+unfolding reading_on_literals running_on_literals columns_of
+case_0_time_of_each_over_a_day = refl
+
+-- faults-3/time_of_each_without_a_batch_service.toml
+case_0_time_of_each_without_a_batch_service : shown_upto 3 0 [] (codes "version = 3\nhorizon = 1000\n[[queue]]\nname = \"q\"\n[[queue]]\nname = \"f.fifo\"\n[[actor]]\nname = \"c\"\nkind = \"consumer\"\nqueue = \"q\"\nservice_min_ms = 1\nservice_max_ms = 1\nservice_each_ms = 1\n")
+    ≡ refused (codes "refused 11 UnknownKey at actor[0].service_each_ms\n")
+unfolding reading_on_literals running_on_literals columns_of
+case_0_time_of_each_without_a_batch_service = refl
 
 -- faults-3/time_of_zero.toml
 case_0_time_of_zero : shown_upto 3 0 [] (codes "version = 3\nhorizon = 1000\n[[queue]]\nname = \"q\"\n[[queue]]\nname = \"f.fifo\"\n[[actor]]\nname = \"c\"\nkind = \"consumer\"\nqueue = \"q\"\nservice = [[0, 0], [1000, 1]]\n")

@@ -9,6 +9,7 @@ use Rattle.sqs_message.specs.declared.calls.Call.TheVariants as calls
 use Rattle.sqs_model.specs.declared.agents.ActorSettings.{ActorSettings}
 use Rattle.sqs_model.specs.declared.agents.Distribution.TheVariants.{Uniform}
 use Rattle.sqs_model.specs.declared.agents.Role.TheVariants.{Consumer, Script}
+use Rattle.sqs_model.specs.declared.agents.Serving.TheVariants.{Each}
 use Rattle.sqs_redrive.specs.declared.settings.Kind.TheVariants.{Standard}
 use Rattle.sqs_redrive.specs.declared.settings.QueueSettings.{QueueSettings}
 use Rattle.sqs_model.specs.Actor.{next}
@@ -53,17 +54,20 @@ consumer home start to =
           (record {
             start = start;
             batch = 1;
+            gather = 0;
             wait = 0;
             timeout = None;
             service = Uniform 14 14;
+            serving = Each;
             fail_permille = 0;
             idle = 86400000;
             forward = Some (record { to = to; latency = record { least = 10; greatest = 10 } });
             stop = None;
             fails_on = None;
-            outage = None;
+            outages = [];
             whole = false;
             backoff = [];
+            jitter = false;
             heartbeat = None;
           });
     }
@@ -187,17 +191,20 @@ relay home start wait to =
           (record {
             start = start;
             batch = 1;
+            gather = 0;
             wait = wait;
             timeout = None;
             service = Uniform 100 100;
+            serving = Each;
             fail_permille = 0;
             idle = 86400000;
             forward = Some (record { to = to; latency = record { least = 10; greatest = 10 } });
             stop = None;
             fails_on = None;
-            outage = None;
+            outages = [];
             whole = false;
             backoff = [];
+            jitter = false;
             heartbeat = None;
           });
     }

@@ -450,6 +450,26 @@ case_0_heartbeat_up_to_12_hours : shown_upto 3 28 [] (codes "# The receive is at
 unfolding reading_on_literals running_on_literals columns_of
 case_0_heartbeat_up_to_12_hours = refl
 
+-- version-3/horizon_while_a_batch_is_decided.toml
+case_0_horizon_while_a_batch_is_decided : shown_upto 3 28 [] (codes "# The service of the batch ends at 110. What would be decided after the horizon, at 112, is not: m-0-2 stays in flight.\nversion = 3\nhorizon = 111\n[[queue]]\nname = \"q\"\n[[actor]]\nname = \"c\"\nkind = \"consumer\"\nqueue = \"q\"\nstart_ms = 10\nbatch = 3\nwait_s = 20\nservice_min_ms = 100\nservice_max_ms = 100\nbatch_service = \"once\"\n[[actor]]\nname = \"s\"\nkind = \"script\"\nqueue = \"q\"\ncalls = \"\"\"\nat,call,body,group,id,delay,receipt,max,wait,timeout,task\n0,send,a,,,,,,,,\n1,send,b,,,,,,,,\n2,send,c,,,,,,,,\n\"\"\"\n")
+    ≡ ran (((codes "at") ∷ (codes "queue") ∷ (codes "agent") ∷ (codes "call") ∷ (codes "answer") ∷ (codes "message") ∷ (codes "receipt") ∷ (codes "detail") ∷ []) ∷
+    ((codes "0") ∷ (codes "q") ∷ (codes "s") ∷ (codes "send") ∷ (codes "new") ∷ (codes "m-0-0") ∷ [] ∷ digest (codes "a") ∷ []) ∷
+    ((codes "1") ∷ (codes "q") ∷ (codes "s") ∷ (codes "send") ∷ (codes "new") ∷ (codes "m-0-1") ∷ [] ∷ digest (codes "b") ∷ []) ∷
+    ((codes "2") ∷ (codes "q") ∷ (codes "s") ∷ (codes "send") ∷ (codes "new") ∷ (codes "m-0-2") ∷ [] ∷ digest (codes "c") ∷ []) ∷
+    ((codes "10") ∷ (codes "q") ∷ (codes "c") ∷ (codes "receive") ∷ (codes "ok") ∷ (codes "m-0-0") ∷ (codes "r-0-0-1") ∷ (codes "o-0-0") ∷ []) ∷
+    ((codes "10") ∷ (codes "q") ∷ (codes "c") ∷ (codes "receive") ∷ (codes "ok") ∷ (codes "m-0-1") ∷ (codes "r-0-1-1") ∷ (codes "o-0-1") ∷ []) ∷
+    ((codes "10") ∷ (codes "q") ∷ (codes "c") ∷ (codes "receive") ∷ (codes "ok") ∷ (codes "m-0-2") ∷ (codes "r-0-2-1") ∷ (codes "o-0-2") ∷ []) ∷
+    ((codes "110") ∷ (codes "q") ∷ (codes "c") ∷ (codes "delete") ∷ (codes "deleted") ∷ (codes "m-0-0") ∷ (codes "r-0-0-1") ∷ (codes "110") ∷ []) ∷
+    ((codes "111") ∷ (codes "q") ∷ (codes "c") ∷ (codes "delete") ∷ (codes "deleted") ∷ (codes "m-0-1") ∷ (codes "r-0-1-1") ∷ (codes "110") ∷ []) ∷
+    ((codes "final") ∷ (codes "queue") ∷ (codes "message") ∷ (codes "origin") ∷ (codes "place") ∷ (codes "due") ∷ (codes "enqueued") ∷ (codes "receives") ∷ (codes "group") ∷ (codes "md5") ∷ []) ∷
+    ((codes "final") ∷ (codes "q") ∷ (codes "m-0-2") ∷ (codes "o-0-2") ∷ (codes "inflight") ∷ (codes "30010") ∷ (codes "2") ∷ (codes "1") ∷ [] ∷ digest (codes "c") ∷ []) ∷
+    ((codes "transfer") ∷ (codes "from") ∷ (codes "to") ∷ (codes "kind") ∷ (codes "due") ∷ (codes "number") ∷ (codes "message") ∷ (codes "origin") ∷ (codes "md5") ∷ []) ∷
+    ((codes "task") ∷ (codes "name") ∷ (codes "status") ∷ (codes "moved") ∷ []) ∷
+    ((codes "report") ∷ (codes "queue") ∷ (codes "sends") ∷ (codes "repeats") ∷ (codes "receives") ∷ (codes "empties") ∷ (codes "deletes") ∷ (codes "expiries") ∷ (codes "redrives") ∷ (codes "moves") ∷ (codes "arrivals") ∷ (codes "OverLimit") ∷ (codes "MessageNotInflight") ∷ (codes "ReceiptHandleIsInvalid") ∷ (codes "BadTimeout") ∷ (codes "MissingGroup") ∷ (codes "MissingDeduplication") ∷ (codes "BadDelay") ∷ (codes "TaskRunning") ∷ (codes "NoTask") ∷ (codes "depth_max") ∷ (codes "visible") ∷ (codes "in_flight") ∷ (codes "delayed") ∷ (codes "age_sum") ∷ (codes "age_max") ∷ (codes "age_p50") ∷ (codes "age_p95") ∷ (codes "age_p99") ∷ []) ∷
+    ((codes "report") ∷ (codes "q") ∷ (codes "3") ∷ (codes "0") ∷ (codes "3") ∷ (codes "0") ∷ (codes "2") ∷ (codes "0") ∷ (codes "0") ∷ (codes "0") ∷ (codes "0") ∷ (codes "0") ∷ (codes "0") ∷ (codes "0") ∷ (codes "0") ∷ (codes "0") ∷ (codes "0") ∷ (codes "0") ∷ (codes "0") ∷ (codes "0") ∷ (codes "3") ∷ (codes "0") ∷ (codes "1") ∷ (codes "0") ∷ (codes "220") ∷ (codes "110") ∷ (codes "110") ∷ (codes "110") ∷ (codes "110") ∷ []) ∷ [])
+unfolding reading_on_literals running_on_literals columns_of
+case_0_horizon_while_a_batch_is_decided = refl
+
 -- version-3/horizon_while_a_batch_is_settled.toml
 case_0_horizon_while_a_batch_is_settled : shown_upto 3 28 [] (codes "# The batch is deleted at 310, 311 and 312; the horizon is 311, so m-0-2 stays in flight.\nversion = 3\nhorizon = 311\n[[queue]]\nname = \"q\"\n[[actor]]\nname = \"c\"\nkind = \"consumer\"\nqueue = \"q\"\nstart_ms = 10\nbatch = 3\nservice_min_ms = 100\nservice_max_ms = 100\nbatch_fails = \"whole\"\n[[actor]]\nname = \"s\"\nkind = \"script\"\nqueue = \"q\"\ncalls = \"\"\"\nat,call,body,group,id,delay,receipt,max,wait,timeout,task\n0,send,a,,,,,,,,\n1,send,b,,,,,,,,\n2,send,c,,,,,,,,\n\"\"\"\n")
     ≡ ran (((codes "at") ∷ (codes "queue") ∷ (codes "agent") ∷ (codes "call") ∷ (codes "answer") ∷ (codes "message") ∷ (codes "receipt") ∷ (codes "detail") ∷ []) ∷
@@ -470,6 +490,91 @@ case_0_horizon_while_a_batch_is_settled : shown_upto 3 28 [] (codes "# The batch
 unfolding reading_on_literals running_on_literals columns_of
 case_0_horizon_while_a_batch_is_settled = refl
 
+-- version-3/jitter_between_two_services.toml
+case_0_jitter_between_two_services : shown_upto 3 29 [] (codes "# Words of agent 2: 717.678 (time of the first service, 100 + 71), 447.024 (its chance), 12.444 (timeout of m-0-0, from\n# 0 to 89 s: 1 s), 505.346 (time of the second service, 100 + 50), 192.088 (its chance) and 387.809 (timeout of m-0-1:\n# 34 s).\nversion = 3\nhorizon = 1000\n[[queue]]\nname = \"q\"\n[[queue]]\nname = \"p\"\n[[actor]]\nname = \"c\"\nkind = \"consumer\"\nqueue = \"q\"\nstart_ms = 10\nbatch = 2\nwait_s = 20\nservice_min_ms = 100\nservice_max_ms = 199\nfail_permille = 1000\nbackoff_s = [89]\nbackoff_jitter = \"full\"\n[[actor]]\nname = \"s\"\nkind = \"script\"\nqueue = \"q\"\ncalls = \"\"\"\nat,call,body,group,id,delay,receipt,max,wait,timeout,task\n0,send,a,,,,,,,,\n1,send,b,,,,,,,,\n\"\"\"\n")
+    ≡ ran (((codes "at") ∷ (codes "queue") ∷ (codes "agent") ∷ (codes "call") ∷ (codes "answer") ∷ (codes "message") ∷ (codes "receipt") ∷ (codes "detail") ∷ []) ∷
+    ((codes "0") ∷ (codes "q") ∷ (codes "s") ∷ (codes "send") ∷ (codes "new") ∷ (codes "m-0-0") ∷ [] ∷ digest (codes "a") ∷ []) ∷
+    ((codes "1") ∷ (codes "q") ∷ (codes "s") ∷ (codes "send") ∷ (codes "new") ∷ (codes "m-0-1") ∷ [] ∷ digest (codes "b") ∷ []) ∷
+    ((codes "10") ∷ (codes "q") ∷ (codes "c") ∷ (codes "receive") ∷ (codes "ok") ∷ (codes "m-0-0") ∷ (codes "r-0-0-1") ∷ (codes "o-0-0") ∷ []) ∷
+    ((codes "10") ∷ (codes "q") ∷ (codes "c") ∷ (codes "receive") ∷ (codes "ok") ∷ (codes "m-0-1") ∷ (codes "r-0-1-1") ∷ (codes "o-0-1") ∷ []) ∷
+    ((codes "181") ∷ (codes "q") ∷ (codes "c") ∷ (codes "fail") ∷ (codes "ok") ∷ (codes "m-0-0") ∷ (codes "r-0-0-1") ∷ [] ∷ []) ∷
+    ((codes "181") ∷ (codes "q") ∷ (codes "c") ∷ (codes "change") ∷ (codes "ok") ∷ (codes "m-0-0") ∷ (codes "r-0-0-1") ∷ (codes "1") ∷ []) ∷
+    ((codes "331") ∷ (codes "q") ∷ (codes "c") ∷ (codes "fail") ∷ (codes "ok") ∷ (codes "m-0-1") ∷ (codes "r-0-1-1") ∷ [] ∷ []) ∷
+    ((codes "331") ∷ (codes "q") ∷ (codes "c") ∷ (codes "change") ∷ (codes "ok") ∷ (codes "m-0-1") ∷ (codes "r-0-1-1") ∷ (codes "34") ∷ []) ∷
+    ((codes "332") ∷ (codes "q") ∷ (codes "c") ∷ (codes "receive") ∷ (codes "wait") ∷ [] ∷ [] ∷ [] ∷ []) ∷
+    ((codes "final") ∷ (codes "queue") ∷ (codes "message") ∷ (codes "origin") ∷ (codes "place") ∷ (codes "due") ∷ (codes "enqueued") ∷ (codes "receives") ∷ (codes "group") ∷ (codes "md5") ∷ []) ∷
+    ((codes "final") ∷ (codes "q") ∷ (codes "m-0-0") ∷ (codes "o-0-0") ∷ (codes "inflight") ∷ (codes "1181") ∷ (codes "0") ∷ (codes "1") ∷ [] ∷ digest (codes "a") ∷ []) ∷
+    ((codes "final") ∷ (codes "q") ∷ (codes "m-0-1") ∷ (codes "o-0-1") ∷ (codes "inflight") ∷ (codes "34331") ∷ (codes "1") ∷ (codes "1") ∷ [] ∷ digest (codes "b") ∷ []) ∷
+    ((codes "transfer") ∷ (codes "from") ∷ (codes "to") ∷ (codes "kind") ∷ (codes "due") ∷ (codes "number") ∷ (codes "message") ∷ (codes "origin") ∷ (codes "md5") ∷ []) ∷
+    ((codes "task") ∷ (codes "name") ∷ (codes "status") ∷ (codes "moved") ∷ []) ∷
+    ((codes "report") ∷ (codes "queue") ∷ (codes "sends") ∷ (codes "repeats") ∷ (codes "receives") ∷ (codes "empties") ∷ (codes "deletes") ∷ (codes "expiries") ∷ (codes "redrives") ∷ (codes "moves") ∷ (codes "arrivals") ∷ (codes "OverLimit") ∷ (codes "MessageNotInflight") ∷ (codes "ReceiptHandleIsInvalid") ∷ (codes "BadTimeout") ∷ (codes "MissingGroup") ∷ (codes "MissingDeduplication") ∷ (codes "BadDelay") ∷ (codes "TaskRunning") ∷ (codes "NoTask") ∷ (codes "depth_max") ∷ (codes "visible") ∷ (codes "in_flight") ∷ (codes "delayed") ∷ (codes "age_sum") ∷ (codes "age_max") ∷ (codes "age_p50") ∷ (codes "age_p95") ∷ (codes "age_p99") ∷ []) ∷
+    ((codes "report") ∷ (codes "q") ∷ (codes "2") ∷ (codes "0") ∷ (codes "2") ∷ (codes "0") ∷ (codes "0") ∷ (codes "0") ∷ (codes "0") ∷ (codes "0") ∷ (codes "0") ∷ (codes "0") ∷ (codes "0") ∷ (codes "0") ∷ (codes "0") ∷ (codes "0") ∷ (codes "0") ∷ (codes "0") ∷ (codes "0") ∷ (codes "0") ∷ (codes "2") ∷ (codes "0") ∷ (codes "2") ∷ (codes "0") ∷ (codes "0") ∷ [] ∷ [] ∷ [] ∷ [] ∷ []) ∷
+    ((codes "report") ∷ (codes "p") ∷ (codes "0") ∷ (codes "0") ∷ (codes "0") ∷ (codes "0") ∷ (codes "0") ∷ (codes "0") ∷ (codes "0") ∷ (codes "0") ∷ (codes "0") ∷ (codes "0") ∷ (codes "0") ∷ (codes "0") ∷ (codes "0") ∷ (codes "0") ∷ (codes "0") ∷ (codes "0") ∷ (codes "0") ∷ (codes "0") ∷ (codes "0") ∷ (codes "0") ∷ (codes "0") ∷ (codes "0") ∷ (codes "0") ∷ [] ∷ [] ∷ [] ∷ [] ∷ []) ∷ [])
+unfolding reading_on_literals running_on_literals columns_of
+case_0_jitter_between_two_services = refl
+
+-- version-3/jitter_from_zero_to_zero.toml
+case_0_jitter_from_zero_to_zero : shown_upto 3 30 [] (codes "# A timeout from 0 to 0 is 0: the message is back at once. After its second receive the timeout is that of the last\n# entry, also 0.\nversion = 3\nhorizon = 212\n[[queue]]\nname = \"q\"\n[[actor]]\nname = \"c\"\nkind = \"consumer\"\nqueue = \"q\"\nstart_ms = 10\nwait_s = 20\nservice_min_ms = 100\nservice_max_ms = 100\nfail_permille = 1000\nbackoff_s = [0]\nbackoff_jitter = \"full\"\n[[actor]]\nname = \"s\"\nkind = \"script\"\nqueue = \"q\"\ncalls = \"\"\"\nat,call,body,group,id,delay,receipt,max,wait,timeout,task\n0,send,a,,,,,,,,\n\"\"\"\n")
+    ≡ ran (((codes "at") ∷ (codes "queue") ∷ (codes "agent") ∷ (codes "call") ∷ (codes "answer") ∷ (codes "message") ∷ (codes "receipt") ∷ (codes "detail") ∷ []) ∷
+    ((codes "0") ∷ (codes "q") ∷ (codes "s") ∷ (codes "send") ∷ (codes "new") ∷ (codes "m-0-0") ∷ [] ∷ digest (codes "a") ∷ []) ∷
+    ((codes "10") ∷ (codes "q") ∷ (codes "c") ∷ (codes "receive") ∷ (codes "ok") ∷ (codes "m-0-0") ∷ (codes "r-0-0-1") ∷ (codes "o-0-0") ∷ []) ∷
+    ((codes "110") ∷ (codes "q") ∷ (codes "c") ∷ (codes "fail") ∷ (codes "ok") ∷ (codes "m-0-0") ∷ (codes "r-0-0-1") ∷ [] ∷ []) ∷
+    ((codes "110") ∷ (codes "q") ∷ (codes "c") ∷ (codes "change") ∷ (codes "ok") ∷ (codes "m-0-0") ∷ (codes "r-0-0-1") ∷ (codes "0") ∷ []) ∷
+    ((codes "110") ∷ (codes "q") ∷ (codes "q") ∷ (codes "release") ∷ (codes "visible") ∷ (codes "m-0-0") ∷ [] ∷ [] ∷ []) ∷
+    ((codes "111") ∷ (codes "q") ∷ (codes "c") ∷ (codes "receive") ∷ (codes "ok") ∷ (codes "m-0-0") ∷ (codes "r-0-0-2") ∷ (codes "o-0-0") ∷ []) ∷
+    ((codes "211") ∷ (codes "q") ∷ (codes "c") ∷ (codes "fail") ∷ (codes "ok") ∷ (codes "m-0-0") ∷ (codes "r-0-0-2") ∷ [] ∷ []) ∷
+    ((codes "211") ∷ (codes "q") ∷ (codes "c") ∷ (codes "change") ∷ (codes "ok") ∷ (codes "m-0-0") ∷ (codes "r-0-0-2") ∷ (codes "0") ∷ []) ∷
+    ((codes "211") ∷ (codes "q") ∷ (codes "q") ∷ (codes "release") ∷ (codes "visible") ∷ (codes "m-0-0") ∷ [] ∷ [] ∷ []) ∷
+    ((codes "212") ∷ (codes "q") ∷ (codes "c") ∷ (codes "receive") ∷ (codes "ok") ∷ (codes "m-0-0") ∷ (codes "r-0-0-3") ∷ (codes "o-0-0") ∷ []) ∷
+    ((codes "final") ∷ (codes "queue") ∷ (codes "message") ∷ (codes "origin") ∷ (codes "place") ∷ (codes "due") ∷ (codes "enqueued") ∷ (codes "receives") ∷ (codes "group") ∷ (codes "md5") ∷ []) ∷
+    ((codes "final") ∷ (codes "q") ∷ (codes "m-0-0") ∷ (codes "o-0-0") ∷ (codes "inflight") ∷ (codes "30212") ∷ (codes "0") ∷ (codes "3") ∷ [] ∷ digest (codes "a") ∷ []) ∷
+    ((codes "transfer") ∷ (codes "from") ∷ (codes "to") ∷ (codes "kind") ∷ (codes "due") ∷ (codes "number") ∷ (codes "message") ∷ (codes "origin") ∷ (codes "md5") ∷ []) ∷
+    ((codes "task") ∷ (codes "name") ∷ (codes "status") ∷ (codes "moved") ∷ []) ∷
+    ((codes "report") ∷ (codes "queue") ∷ (codes "sends") ∷ (codes "repeats") ∷ (codes "receives") ∷ (codes "empties") ∷ (codes "deletes") ∷ (codes "expiries") ∷ (codes "redrives") ∷ (codes "moves") ∷ (codes "arrivals") ∷ (codes "OverLimit") ∷ (codes "MessageNotInflight") ∷ (codes "ReceiptHandleIsInvalid") ∷ (codes "BadTimeout") ∷ (codes "MissingGroup") ∷ (codes "MissingDeduplication") ∷ (codes "BadDelay") ∷ (codes "TaskRunning") ∷ (codes "NoTask") ∷ (codes "depth_max") ∷ (codes "visible") ∷ (codes "in_flight") ∷ (codes "delayed") ∷ (codes "age_sum") ∷ (codes "age_max") ∷ (codes "age_p50") ∷ (codes "age_p95") ∷ (codes "age_p99") ∷ []) ∷
+    ((codes "report") ∷ (codes "q") ∷ (codes "1") ∷ (codes "0") ∷ (codes "3") ∷ (codes "0") ∷ (codes "0") ∷ (codes "0") ∷ (codes "0") ∷ (codes "0") ∷ (codes "0") ∷ (codes "0") ∷ (codes "0") ∷ (codes "0") ∷ (codes "0") ∷ (codes "0") ∷ (codes "0") ∷ (codes "0") ∷ (codes "0") ∷ (codes "0") ∷ (codes "1") ∷ (codes "0") ∷ (codes "1") ∷ (codes "0") ∷ (codes "0") ∷ [] ∷ [] ∷ [] ∷ [] ∷ []) ∷ [])
+unfolding reading_on_literals running_on_literals columns_of
+case_0_jitter_from_zero_to_zero = refl
+
+-- version-3/jitter_of_a_whole_batch.toml
+case_0_jitter_of_a_whole_batch : shown_upto 3 29 [] (codes "# Words of agent 2: 717.678 and 447.024 (time and chance of the service), 12.444 (timeout of m-0-0, from 0 to 9 s: 0)\n# and 505.346 (that of m-0-1: 5 s). The first is back at once, after the row of the change.\nversion = 3\nhorizon = 112\n[[queue]]\nname = \"q\"\n[[queue]]\nname = \"p\"\n[[actor]]\nname = \"c\"\nkind = \"consumer\"\nqueue = \"q\"\nstart_ms = 10\nbatch = 2\nwait_s = 20\nservice_min_ms = 100\nservice_max_ms = 100\nbatch_service = \"once\"\nfail_permille = 1000\nbatch_fails = \"whole\"\nbackoff_s = [9]\nbackoff_jitter = \"full\"\n[[actor]]\nname = \"s\"\nkind = \"script\"\nqueue = \"q\"\ncalls = \"\"\"\nat,call,body,group,id,delay,receipt,max,wait,timeout,task\n0,send,a,,,,,,,,\n1,send,b,,,,,,,,\n\"\"\"\n")
+    ≡ ran (((codes "at") ∷ (codes "queue") ∷ (codes "agent") ∷ (codes "call") ∷ (codes "answer") ∷ (codes "message") ∷ (codes "receipt") ∷ (codes "detail") ∷ []) ∷
+    ((codes "0") ∷ (codes "q") ∷ (codes "s") ∷ (codes "send") ∷ (codes "new") ∷ (codes "m-0-0") ∷ [] ∷ digest (codes "a") ∷ []) ∷
+    ((codes "1") ∷ (codes "q") ∷ (codes "s") ∷ (codes "send") ∷ (codes "new") ∷ (codes "m-0-1") ∷ [] ∷ digest (codes "b") ∷ []) ∷
+    ((codes "10") ∷ (codes "q") ∷ (codes "c") ∷ (codes "receive") ∷ (codes "ok") ∷ (codes "m-0-0") ∷ (codes "r-0-0-1") ∷ (codes "o-0-0") ∷ []) ∷
+    ((codes "10") ∷ (codes "q") ∷ (codes "c") ∷ (codes "receive") ∷ (codes "ok") ∷ (codes "m-0-1") ∷ (codes "r-0-1-1") ∷ (codes "o-0-1") ∷ []) ∷
+    ((codes "110") ∷ (codes "q") ∷ (codes "c") ∷ (codes "fail") ∷ (codes "ok") ∷ (codes "m-0-0") ∷ (codes "r-0-0-1") ∷ [] ∷ []) ∷
+    ((codes "110") ∷ (codes "q") ∷ (codes "c") ∷ (codes "change") ∷ (codes "ok") ∷ (codes "m-0-0") ∷ (codes "r-0-0-1") ∷ (codes "0") ∷ []) ∷
+    ((codes "110") ∷ (codes "q") ∷ (codes "q") ∷ (codes "release") ∷ (codes "visible") ∷ (codes "m-0-0") ∷ [] ∷ [] ∷ []) ∷
+    ((codes "111") ∷ (codes "q") ∷ (codes "c") ∷ (codes "change") ∷ (codes "ok") ∷ (codes "m-0-1") ∷ (codes "r-0-1-1") ∷ (codes "5") ∷ []) ∷
+    ((codes "112") ∷ (codes "q") ∷ (codes "c") ∷ (codes "receive") ∷ (codes "ok") ∷ (codes "m-0-0") ∷ (codes "r-0-0-2") ∷ (codes "o-0-0") ∷ []) ∷
+    ((codes "final") ∷ (codes "queue") ∷ (codes "message") ∷ (codes "origin") ∷ (codes "place") ∷ (codes "due") ∷ (codes "enqueued") ∷ (codes "receives") ∷ (codes "group") ∷ (codes "md5") ∷ []) ∷
+    ((codes "final") ∷ (codes "q") ∷ (codes "m-0-0") ∷ (codes "o-0-0") ∷ (codes "inflight") ∷ (codes "30112") ∷ (codes "0") ∷ (codes "2") ∷ [] ∷ digest (codes "a") ∷ []) ∷
+    ((codes "final") ∷ (codes "q") ∷ (codes "m-0-1") ∷ (codes "o-0-1") ∷ (codes "inflight") ∷ (codes "5111") ∷ (codes "1") ∷ (codes "1") ∷ [] ∷ digest (codes "b") ∷ []) ∷
+    ((codes "transfer") ∷ (codes "from") ∷ (codes "to") ∷ (codes "kind") ∷ (codes "due") ∷ (codes "number") ∷ (codes "message") ∷ (codes "origin") ∷ (codes "md5") ∷ []) ∷
+    ((codes "task") ∷ (codes "name") ∷ (codes "status") ∷ (codes "moved") ∷ []) ∷
+    ((codes "report") ∷ (codes "queue") ∷ (codes "sends") ∷ (codes "repeats") ∷ (codes "receives") ∷ (codes "empties") ∷ (codes "deletes") ∷ (codes "expiries") ∷ (codes "redrives") ∷ (codes "moves") ∷ (codes "arrivals") ∷ (codes "OverLimit") ∷ (codes "MessageNotInflight") ∷ (codes "ReceiptHandleIsInvalid") ∷ (codes "BadTimeout") ∷ (codes "MissingGroup") ∷ (codes "MissingDeduplication") ∷ (codes "BadDelay") ∷ (codes "TaskRunning") ∷ (codes "NoTask") ∷ (codes "depth_max") ∷ (codes "visible") ∷ (codes "in_flight") ∷ (codes "delayed") ∷ (codes "age_sum") ∷ (codes "age_max") ∷ (codes "age_p50") ∷ (codes "age_p95") ∷ (codes "age_p99") ∷ []) ∷
+    ((codes "report") ∷ (codes "q") ∷ (codes "2") ∷ (codes "0") ∷ (codes "3") ∷ (codes "0") ∷ (codes "0") ∷ (codes "0") ∷ (codes "0") ∷ (codes "0") ∷ (codes "0") ∷ (codes "0") ∷ (codes "0") ∷ (codes "0") ∷ (codes "0") ∷ (codes "0") ∷ (codes "0") ∷ (codes "0") ∷ (codes "0") ∷ (codes "0") ∷ (codes "2") ∷ (codes "0") ∷ (codes "2") ∷ (codes "0") ∷ (codes "0") ∷ [] ∷ [] ∷ [] ∷ [] ∷ []) ∷
+    ((codes "report") ∷ (codes "p") ∷ (codes "0") ∷ (codes "0") ∷ (codes "0") ∷ (codes "0") ∷ (codes "0") ∷ (codes "0") ∷ (codes "0") ∷ (codes "0") ∷ (codes "0") ∷ (codes "0") ∷ (codes "0") ∷ (codes "0") ∷ (codes "0") ∷ (codes "0") ∷ (codes "0") ∷ (codes "0") ∷ (codes "0") ∷ (codes "0") ∷ (codes "0") ∷ (codes "0") ∷ (codes "0") ∷ (codes "0") ∷ (codes "0") ∷ [] ∷ [] ∷ [] ∷ [] ∷ []) ∷ [])
+unfolding reading_on_literals running_on_literals columns_of
+case_0_jitter_of_a_whole_batch = refl
+
+-- version-3/jitter_of_none.toml
+case_0_jitter_of_none : shown_upto 3 25 [] (codes "# With backoff_jitter = \"none\" the timeout is the entry, as without the key.\nversion = 3\nhorizon = 1000\n[[queue]]\nname = \"q\"\n[[actor]]\nname = \"c\"\nkind = \"consumer\"\nqueue = \"q\"\nstart_ms = 10\nwait_s = 20\nservice_min_ms = 100\nservice_max_ms = 100\nfail_permille = 1000\nbackoff_s = [9]\nbackoff_jitter = \"none\"\n[[actor]]\nname = \"s\"\nkind = \"script\"\nqueue = \"q\"\ncalls = \"\"\"\nat,call,body,group,id,delay,receipt,max,wait,timeout,task\n0,send,a,,,,,,,,\n\"\"\"\n")
+    ≡ ran (((codes "at") ∷ (codes "queue") ∷ (codes "agent") ∷ (codes "call") ∷ (codes "answer") ∷ (codes "message") ∷ (codes "receipt") ∷ (codes "detail") ∷ []) ∷
+    ((codes "0") ∷ (codes "q") ∷ (codes "s") ∷ (codes "send") ∷ (codes "new") ∷ (codes "m-0-0") ∷ [] ∷ digest (codes "a") ∷ []) ∷
+    ((codes "10") ∷ (codes "q") ∷ (codes "c") ∷ (codes "receive") ∷ (codes "ok") ∷ (codes "m-0-0") ∷ (codes "r-0-0-1") ∷ (codes "o-0-0") ∷ []) ∷
+    ((codes "110") ∷ (codes "q") ∷ (codes "c") ∷ (codes "fail") ∷ (codes "ok") ∷ (codes "m-0-0") ∷ (codes "r-0-0-1") ∷ [] ∷ []) ∷
+    ((codes "110") ∷ (codes "q") ∷ (codes "c") ∷ (codes "change") ∷ (codes "ok") ∷ (codes "m-0-0") ∷ (codes "r-0-0-1") ∷ (codes "9") ∷ []) ∷
+    ((codes "111") ∷ (codes "q") ∷ (codes "c") ∷ (codes "receive") ∷ (codes "wait") ∷ [] ∷ [] ∷ [] ∷ []) ∷
+    ((codes "final") ∷ (codes "queue") ∷ (codes "message") ∷ (codes "origin") ∷ (codes "place") ∷ (codes "due") ∷ (codes "enqueued") ∷ (codes "receives") ∷ (codes "group") ∷ (codes "md5") ∷ []) ∷
+    ((codes "final") ∷ (codes "q") ∷ (codes "m-0-0") ∷ (codes "o-0-0") ∷ (codes "inflight") ∷ (codes "9110") ∷ (codes "0") ∷ (codes "1") ∷ [] ∷ digest (codes "a") ∷ []) ∷
+    ((codes "transfer") ∷ (codes "from") ∷ (codes "to") ∷ (codes "kind") ∷ (codes "due") ∷ (codes "number") ∷ (codes "message") ∷ (codes "origin") ∷ (codes "md5") ∷ []) ∷
+    ((codes "task") ∷ (codes "name") ∷ (codes "status") ∷ (codes "moved") ∷ []) ∷
+    ((codes "report") ∷ (codes "queue") ∷ (codes "sends") ∷ (codes "repeats") ∷ (codes "receives") ∷ (codes "empties") ∷ (codes "deletes") ∷ (codes "expiries") ∷ (codes "redrives") ∷ (codes "moves") ∷ (codes "arrivals") ∷ (codes "OverLimit") ∷ (codes "MessageNotInflight") ∷ (codes "ReceiptHandleIsInvalid") ∷ (codes "BadTimeout") ∷ (codes "MissingGroup") ∷ (codes "MissingDeduplication") ∷ (codes "BadDelay") ∷ (codes "TaskRunning") ∷ (codes "NoTask") ∷ (codes "depth_max") ∷ (codes "visible") ∷ (codes "in_flight") ∷ (codes "delayed") ∷ (codes "age_sum") ∷ (codes "age_max") ∷ (codes "age_p50") ∷ (codes "age_p95") ∷ (codes "age_p99") ∷ []) ∷
+    ((codes "report") ∷ (codes "q") ∷ (codes "1") ∷ (codes "0") ∷ (codes "1") ∷ (codes "0") ∷ (codes "0") ∷ (codes "0") ∷ (codes "0") ∷ (codes "0") ∷ (codes "0") ∷ (codes "0") ∷ (codes "0") ∷ (codes "0") ∷ (codes "0") ∷ (codes "0") ∷ (codes "0") ∷ (codes "0") ∷ (codes "0") ∷ (codes "0") ∷ (codes "1") ∷ (codes "0") ∷ (codes "1") ∷ (codes "0") ∷ (codes "0") ∷ [] ∷ [] ∷ [] ∷ [] ∷ []) ∷ [])
+unfolding reading_on_literals running_on_literals columns_of
+case_0_jitter_of_none = refl
+
 -- version-3/nothing_new.toml
 case_0_nothing_new : shown_upto 3 28 [] (codes "# A text of version 3 with none of its keys, as version 2 has it: m-0-0 fails by fail_permille, is received once more as\n# its timeout ends, and so on.\nversion = 3\nhorizon = 1500\n[[queue]]\nname = \"q\"\nvisibility_s = 1\n[[actor]]\nname = \"c\"\nkind = \"consumer\"\nqueue = \"q\"\nstart_ms = 10\nwait_s = 20\nservice_min_ms = 100\nservice_max_ms = 100\nfail_permille = 1000\n[[actor]]\nname = \"p\"\nkind = \"producer\"\nqueue = \"q\"\ncount = 1\ngap_min_ms = 1\ngap_max_ms = 1\nbody = \"a\"\n")
     ≡ ran (((codes "at") ∷ (codes "queue") ∷ (codes "agent") ∷ (codes "call") ∷ (codes "answer") ∷ (codes "message") ∷ (codes "receipt") ∷ (codes "detail") ∷ []) ∷
@@ -489,6 +594,204 @@ case_0_nothing_new : shown_upto 3 28 [] (codes "# A text of version 3 with none 
     ((codes "report") ∷ (codes "q") ∷ (codes "1") ∷ (codes "0") ∷ (codes "2") ∷ (codes "0") ∷ (codes "0") ∷ (codes "0") ∷ (codes "0") ∷ (codes "0") ∷ (codes "0") ∷ (codes "0") ∷ (codes "0") ∷ (codes "0") ∷ (codes "0") ∷ (codes "0") ∷ (codes "0") ∷ (codes "0") ∷ (codes "0") ∷ (codes "0") ∷ (codes "1") ∷ (codes "0") ∷ (codes "1") ∷ (codes "0") ∷ (codes "0") ∷ [] ∷ [] ∷ [] ∷ [] ∷ []) ∷ [])
 unfolding reading_on_literals running_on_literals columns_of
 case_0_nothing_new = refl
+
+-- version-3/once_and_each_by_itself.toml
+case_0_once_and_each_by_itself : shown_upto 3 31 [] (codes "# One service of all three messages ends at 110. Each is then decided by itself, 1 ms apart: m-0-0 is deleted, the\n# poison m-0-1 fails and gets its backoff in the same moment, m-0-2 is deleted.\nversion = 3\nhorizon = 1000\n[[queue]]\nname = \"q\"\n[[actor]]\nname = \"c\"\nkind = \"consumer\"\nqueue = \"q\"\nstart_ms = 10\nbatch = 3\nwait_s = 20\nservice_min_ms = 100\nservice_max_ms = 100\nbatch_service = \"once\"\nfails_on = \"bad\"\nbackoff_s = [7]\n[[actor]]\nname = \"s\"\nkind = \"script\"\nqueue = \"q\"\ncalls = \"\"\"\nat,call,body,group,id,delay,receipt,max,wait,timeout,task\n0,send,a,,,,,,,,\n1,send,bad,,,,,,,,\n2,send,c,,,,,,,,\n\"\"\"\n")
+    ≡ ran (((codes "at") ∷ (codes "queue") ∷ (codes "agent") ∷ (codes "call") ∷ (codes "answer") ∷ (codes "message") ∷ (codes "receipt") ∷ (codes "detail") ∷ []) ∷
+    ((codes "0") ∷ (codes "q") ∷ (codes "s") ∷ (codes "send") ∷ (codes "new") ∷ (codes "m-0-0") ∷ [] ∷ digest (codes "a") ∷ []) ∷
+    ((codes "1") ∷ (codes "q") ∷ (codes "s") ∷ (codes "send") ∷ (codes "new") ∷ (codes "m-0-1") ∷ [] ∷ digest (codes "bad") ∷ []) ∷
+    ((codes "2") ∷ (codes "q") ∷ (codes "s") ∷ (codes "send") ∷ (codes "new") ∷ (codes "m-0-2") ∷ [] ∷ digest (codes "c") ∷ []) ∷
+    ((codes "10") ∷ (codes "q") ∷ (codes "c") ∷ (codes "receive") ∷ (codes "ok") ∷ (codes "m-0-0") ∷ (codes "r-0-0-1") ∷ (codes "o-0-0") ∷ []) ∷
+    ((codes "10") ∷ (codes "q") ∷ (codes "c") ∷ (codes "receive") ∷ (codes "ok") ∷ (codes "m-0-1") ∷ (codes "r-0-1-1") ∷ (codes "o-0-1") ∷ []) ∷
+    ((codes "10") ∷ (codes "q") ∷ (codes "c") ∷ (codes "receive") ∷ (codes "ok") ∷ (codes "m-0-2") ∷ (codes "r-0-2-1") ∷ (codes "o-0-2") ∷ []) ∷
+    ((codes "110") ∷ (codes "q") ∷ (codes "c") ∷ (codes "delete") ∷ (codes "deleted") ∷ (codes "m-0-0") ∷ (codes "r-0-0-1") ∷ (codes "110") ∷ []) ∷
+    ((codes "111") ∷ (codes "q") ∷ (codes "c") ∷ (codes "fail") ∷ (codes "ok") ∷ (codes "m-0-1") ∷ (codes "r-0-1-1") ∷ [] ∷ []) ∷
+    ((codes "111") ∷ (codes "q") ∷ (codes "c") ∷ (codes "change") ∷ (codes "ok") ∷ (codes "m-0-1") ∷ (codes "r-0-1-1") ∷ (codes "7") ∷ []) ∷
+    ((codes "112") ∷ (codes "q") ∷ (codes "c") ∷ (codes "delete") ∷ (codes "deleted") ∷ (codes "m-0-2") ∷ (codes "r-0-2-1") ∷ (codes "110") ∷ []) ∷
+    ((codes "113") ∷ (codes "q") ∷ (codes "c") ∷ (codes "receive") ∷ (codes "wait") ∷ [] ∷ [] ∷ [] ∷ []) ∷
+    ((codes "final") ∷ (codes "queue") ∷ (codes "message") ∷ (codes "origin") ∷ (codes "place") ∷ (codes "due") ∷ (codes "enqueued") ∷ (codes "receives") ∷ (codes "group") ∷ (codes "md5") ∷ []) ∷
+    ((codes "final") ∷ (codes "q") ∷ (codes "m-0-1") ∷ (codes "o-0-1") ∷ (codes "inflight") ∷ (codes "7111") ∷ (codes "1") ∷ (codes "1") ∷ [] ∷ digest (codes "bad") ∷ []) ∷
+    ((codes "transfer") ∷ (codes "from") ∷ (codes "to") ∷ (codes "kind") ∷ (codes "due") ∷ (codes "number") ∷ (codes "message") ∷ (codes "origin") ∷ (codes "md5") ∷ []) ∷
+    ((codes "task") ∷ (codes "name") ∷ (codes "status") ∷ (codes "moved") ∷ []) ∷
+    ((codes "report") ∷ (codes "queue") ∷ (codes "sends") ∷ (codes "repeats") ∷ (codes "receives") ∷ (codes "empties") ∷ (codes "deletes") ∷ (codes "expiries") ∷ (codes "redrives") ∷ (codes "moves") ∷ (codes "arrivals") ∷ (codes "OverLimit") ∷ (codes "MessageNotInflight") ∷ (codes "ReceiptHandleIsInvalid") ∷ (codes "BadTimeout") ∷ (codes "MissingGroup") ∷ (codes "MissingDeduplication") ∷ (codes "BadDelay") ∷ (codes "TaskRunning") ∷ (codes "NoTask") ∷ (codes "depth_max") ∷ (codes "visible") ∷ (codes "in_flight") ∷ (codes "delayed") ∷ (codes "age_sum") ∷ (codes "age_max") ∷ (codes "age_p50") ∷ (codes "age_p95") ∷ (codes "age_p99") ∷ []) ∷
+    ((codes "report") ∷ (codes "q") ∷ (codes "3") ∷ (codes "0") ∷ (codes "3") ∷ (codes "0") ∷ (codes "2") ∷ (codes "0") ∷ (codes "0") ∷ (codes "0") ∷ (codes "0") ∷ (codes "0") ∷ (codes "0") ∷ (codes "0") ∷ (codes "0") ∷ (codes "0") ∷ (codes "0") ∷ (codes "0") ∷ (codes "0") ∷ (codes "0") ∷ (codes "3") ∷ (codes "0") ∷ (codes "1") ∷ (codes "0") ∷ (codes "220") ∷ (codes "110") ∷ (codes "110") ∷ (codes "110") ∷ (codes "110") ∷ []) ∷ [])
+unfolding reading_on_literals running_on_literals columns_of
+case_0_once_and_each_by_itself = refl
+
+-- version-3/once_draws_a_chance_for_each.toml
+case_0_once_draws_a_chance_for_each : shown_upto 3 27 [] (codes "# Words of agent 2: 717.678 (the time of the service, 100 + 71), 447.024 (the chance of m-0-0, not below 100) and 12.444\n# (that of m-0-1, which fails). No time is drawn between the two. The service ends at 10 + 171 + 2 * 5 = 191.\nversion = 3\nhorizon = 1000\n[[queue]]\nname = \"q\"\n[[queue]]\nname = \"p\"\n[[actor]]\nname = \"c\"\nkind = \"consumer\"\nqueue = \"q\"\nstart_ms = 10\nbatch = 2\nwait_s = 20\nservice_min_ms = 100\nservice_max_ms = 199\nbatch_service = \"once\"\nservice_each_ms = 5\nfail_permille = 100\n[[actor]]\nname = \"s\"\nkind = \"script\"\nqueue = \"q\"\ncalls = \"\"\"\nat,call,body,group,id,delay,receipt,max,wait,timeout,task\n0,send,a,,,,,,,,\n1,send,b,,,,,,,,\n\"\"\"\n")
+    ≡ ran (((codes "at") ∷ (codes "queue") ∷ (codes "agent") ∷ (codes "call") ∷ (codes "answer") ∷ (codes "message") ∷ (codes "receipt") ∷ (codes "detail") ∷ []) ∷
+    ((codes "0") ∷ (codes "q") ∷ (codes "s") ∷ (codes "send") ∷ (codes "new") ∷ (codes "m-0-0") ∷ [] ∷ digest (codes "a") ∷ []) ∷
+    ((codes "1") ∷ (codes "q") ∷ (codes "s") ∷ (codes "send") ∷ (codes "new") ∷ (codes "m-0-1") ∷ [] ∷ digest (codes "b") ∷ []) ∷
+    ((codes "10") ∷ (codes "q") ∷ (codes "c") ∷ (codes "receive") ∷ (codes "ok") ∷ (codes "m-0-0") ∷ (codes "r-0-0-1") ∷ (codes "o-0-0") ∷ []) ∷
+    ((codes "10") ∷ (codes "q") ∷ (codes "c") ∷ (codes "receive") ∷ (codes "ok") ∷ (codes "m-0-1") ∷ (codes "r-0-1-1") ∷ (codes "o-0-1") ∷ []) ∷
+    ((codes "191") ∷ (codes "q") ∷ (codes "c") ∷ (codes "delete") ∷ (codes "deleted") ∷ (codes "m-0-0") ∷ (codes "r-0-0-1") ∷ (codes "191") ∷ []) ∷
+    ((codes "192") ∷ (codes "q") ∷ (codes "c") ∷ (codes "fail") ∷ (codes "ok") ∷ (codes "m-0-1") ∷ (codes "r-0-1-1") ∷ [] ∷ []) ∷
+    ((codes "193") ∷ (codes "q") ∷ (codes "c") ∷ (codes "receive") ∷ (codes "wait") ∷ [] ∷ [] ∷ [] ∷ []) ∷
+    ((codes "final") ∷ (codes "queue") ∷ (codes "message") ∷ (codes "origin") ∷ (codes "place") ∷ (codes "due") ∷ (codes "enqueued") ∷ (codes "receives") ∷ (codes "group") ∷ (codes "md5") ∷ []) ∷
+    ((codes "final") ∷ (codes "q") ∷ (codes "m-0-1") ∷ (codes "o-0-1") ∷ (codes "inflight") ∷ (codes "30010") ∷ (codes "1") ∷ (codes "1") ∷ [] ∷ digest (codes "b") ∷ []) ∷
+    ((codes "transfer") ∷ (codes "from") ∷ (codes "to") ∷ (codes "kind") ∷ (codes "due") ∷ (codes "number") ∷ (codes "message") ∷ (codes "origin") ∷ (codes "md5") ∷ []) ∷
+    ((codes "task") ∷ (codes "name") ∷ (codes "status") ∷ (codes "moved") ∷ []) ∷
+    ((codes "report") ∷ (codes "queue") ∷ (codes "sends") ∷ (codes "repeats") ∷ (codes "receives") ∷ (codes "empties") ∷ (codes "deletes") ∷ (codes "expiries") ∷ (codes "redrives") ∷ (codes "moves") ∷ (codes "arrivals") ∷ (codes "OverLimit") ∷ (codes "MessageNotInflight") ∷ (codes "ReceiptHandleIsInvalid") ∷ (codes "BadTimeout") ∷ (codes "MissingGroup") ∷ (codes "MissingDeduplication") ∷ (codes "BadDelay") ∷ (codes "TaskRunning") ∷ (codes "NoTask") ∷ (codes "depth_max") ∷ (codes "visible") ∷ (codes "in_flight") ∷ (codes "delayed") ∷ (codes "age_sum") ∷ (codes "age_max") ∷ (codes "age_p50") ∷ (codes "age_p95") ∷ (codes "age_p99") ∷ []) ∷
+    ((codes "report") ∷ (codes "q") ∷ (codes "2") ∷ (codes "0") ∷ (codes "2") ∷ (codes "0") ∷ (codes "1") ∷ (codes "0") ∷ (codes "0") ∷ (codes "0") ∷ (codes "0") ∷ (codes "0") ∷ (codes "0") ∷ (codes "0") ∷ (codes "0") ∷ (codes "0") ∷ (codes "0") ∷ (codes "0") ∷ (codes "0") ∷ (codes "0") ∷ (codes "2") ∷ (codes "0") ∷ (codes "1") ∷ (codes "0") ∷ (codes "191") ∷ (codes "191") ∷ (codes "191") ∷ (codes "191") ∷ (codes "191") ∷ []) ∷
+    ((codes "report") ∷ (codes "p") ∷ (codes "0") ∷ (codes "0") ∷ (codes "0") ∷ (codes "0") ∷ (codes "0") ∷ (codes "0") ∷ (codes "0") ∷ (codes "0") ∷ (codes "0") ∷ (codes "0") ∷ (codes "0") ∷ (codes "0") ∷ (codes "0") ∷ (codes "0") ∷ (codes "0") ∷ (codes "0") ∷ (codes "0") ∷ (codes "0") ∷ (codes "0") ∷ (codes "0") ∷ (codes "0") ∷ (codes "0") ∷ (codes "0") ∷ [] ∷ [] ∷ [] ∷ [] ∷ []) ∷ [])
+unfolding reading_on_literals running_on_literals columns_of
+case_0_once_draws_a_chance_for_each = refl
+
+-- version-3/once_forwards_a_whole_batch.toml
+case_0_once_forwards_a_whole_batch : shown_upto 3 31 [] (codes "# Words of agent 2: 717.678 (the time of the service, 100 + 71), 447.024 (its chance), 12.444 (latency of m-0-0 at its\n# delete, 50 + 1) and 505.346 (latency of m-0-1, 50 + 50). The service ends at 10 + 171 + 2 * 5 = 191; the forwards\n# arrive at 191 + 51 and 192 + 100.\nversion = 3\nhorizon = 1000\n[[queue]]\nname = \"q\"\n[[queue]]\nname = \"out\"\n[[actor]]\nname = \"c\"\nkind = \"consumer\"\nqueue = \"q\"\nstart_ms = 10\nbatch = 2\nwait_s = 20\nservice_min_ms = 100\nservice_max_ms = 199\nforward = \"out\"\nlatency_min_ms = 50\nlatency_max_ms = 149\nbatch_service = \"once\"\nservice_each_ms = 5\nbatch_fails = \"whole\"\n[[actor]]\nname = \"s\"\nkind = \"script\"\nqueue = \"q\"\ncalls = \"\"\"\nat,call,body,group,id,delay,receipt,max,wait,timeout,task\n0,send,a,,,,,,,,\n1,send,b,,,,,,,,\n\"\"\"\n")
+    ≡ ran (((codes "at") ∷ (codes "queue") ∷ (codes "agent") ∷ (codes "call") ∷ (codes "answer") ∷ (codes "message") ∷ (codes "receipt") ∷ (codes "detail") ∷ []) ∷
+    ((codes "0") ∷ (codes "q") ∷ (codes "s") ∷ (codes "send") ∷ (codes "new") ∷ (codes "m-0-0") ∷ [] ∷ digest (codes "a") ∷ []) ∷
+    ((codes "1") ∷ (codes "q") ∷ (codes "s") ∷ (codes "send") ∷ (codes "new") ∷ (codes "m-0-1") ∷ [] ∷ digest (codes "b") ∷ []) ∷
+    ((codes "10") ∷ (codes "q") ∷ (codes "c") ∷ (codes "receive") ∷ (codes "ok") ∷ (codes "m-0-0") ∷ (codes "r-0-0-1") ∷ (codes "o-0-0") ∷ []) ∷
+    ((codes "10") ∷ (codes "q") ∷ (codes "c") ∷ (codes "receive") ∷ (codes "ok") ∷ (codes "m-0-1") ∷ (codes "r-0-1-1") ∷ (codes "o-0-1") ∷ []) ∷
+    ((codes "191") ∷ (codes "q") ∷ (codes "c") ∷ (codes "forward") ∷ (codes "out") ∷ (codes "m-0-0") ∷ [] ∷ (codes "out") ∷ []) ∷
+    ((codes "191") ∷ (codes "q") ∷ (codes "c") ∷ (codes "delete") ∷ (codes "deleted") ∷ (codes "m-0-0") ∷ (codes "r-0-0-1") ∷ (codes "191") ∷ []) ∷
+    ((codes "192") ∷ (codes "q") ∷ (codes "c") ∷ (codes "forward") ∷ (codes "out") ∷ (codes "m-0-1") ∷ [] ∷ (codes "out") ∷ []) ∷
+    ((codes "192") ∷ (codes "q") ∷ (codes "c") ∷ (codes "delete") ∷ (codes "deleted") ∷ (codes "m-0-1") ∷ (codes "r-0-1-1") ∷ (codes "191") ∷ []) ∷
+    ((codes "193") ∷ (codes "q") ∷ (codes "c") ∷ (codes "receive") ∷ (codes "wait") ∷ [] ∷ [] ∷ [] ∷ []) ∷
+    ((codes "242") ∷ (codes "out") ∷ (codes "c") ∷ (codes "arrive") ∷ (codes "new") ∷ (codes "m-1-0") ∷ [] ∷ (codes "o-1-0") ∷ []) ∷
+    ((codes "292") ∷ (codes "out") ∷ (codes "c") ∷ (codes "arrive") ∷ (codes "new") ∷ (codes "m-1-1") ∷ [] ∷ (codes "o-1-1") ∷ []) ∷
+    ((codes "final") ∷ (codes "queue") ∷ (codes "message") ∷ (codes "origin") ∷ (codes "place") ∷ (codes "due") ∷ (codes "enqueued") ∷ (codes "receives") ∷ (codes "group") ∷ (codes "md5") ∷ []) ∷
+    ((codes "final") ∷ (codes "out") ∷ (codes "m-1-0") ∷ (codes "o-1-0") ∷ (codes "visible") ∷ [] ∷ (codes "242") ∷ (codes "0") ∷ [] ∷ digest (codes "a") ∷ []) ∷
+    ((codes "final") ∷ (codes "out") ∷ (codes "m-1-1") ∷ (codes "o-1-1") ∷ (codes "visible") ∷ [] ∷ (codes "292") ∷ (codes "0") ∷ [] ∷ digest (codes "b") ∷ []) ∷
+    ((codes "transfer") ∷ (codes "from") ∷ (codes "to") ∷ (codes "kind") ∷ (codes "due") ∷ (codes "number") ∷ (codes "message") ∷ (codes "origin") ∷ (codes "md5") ∷ []) ∷
+    ((codes "task") ∷ (codes "name") ∷ (codes "status") ∷ (codes "moved") ∷ []) ∷
+    ((codes "report") ∷ (codes "queue") ∷ (codes "sends") ∷ (codes "repeats") ∷ (codes "receives") ∷ (codes "empties") ∷ (codes "deletes") ∷ (codes "expiries") ∷ (codes "redrives") ∷ (codes "moves") ∷ (codes "arrivals") ∷ (codes "OverLimit") ∷ (codes "MessageNotInflight") ∷ (codes "ReceiptHandleIsInvalid") ∷ (codes "BadTimeout") ∷ (codes "MissingGroup") ∷ (codes "MissingDeduplication") ∷ (codes "BadDelay") ∷ (codes "TaskRunning") ∷ (codes "NoTask") ∷ (codes "depth_max") ∷ (codes "visible") ∷ (codes "in_flight") ∷ (codes "delayed") ∷ (codes "age_sum") ∷ (codes "age_max") ∷ (codes "age_p50") ∷ (codes "age_p95") ∷ (codes "age_p99") ∷ []) ∷
+    ((codes "report") ∷ (codes "q") ∷ (codes "2") ∷ (codes "0") ∷ (codes "2") ∷ (codes "0") ∷ (codes "2") ∷ (codes "0") ∷ (codes "0") ∷ (codes "0") ∷ (codes "0") ∷ (codes "0") ∷ (codes "0") ∷ (codes "0") ∷ (codes "0") ∷ (codes "0") ∷ (codes "0") ∷ (codes "0") ∷ (codes "0") ∷ (codes "0") ∷ (codes "2") ∷ (codes "0") ∷ (codes "0") ∷ (codes "0") ∷ (codes "382") ∷ (codes "191") ∷ (codes "191") ∷ (codes "191") ∷ (codes "191") ∷ []) ∷
+    ((codes "report") ∷ (codes "out") ∷ (codes "0") ∷ (codes "0") ∷ (codes "0") ∷ (codes "0") ∷ (codes "0") ∷ (codes "0") ∷ (codes "0") ∷ (codes "0") ∷ (codes "2") ∷ (codes "0") ∷ (codes "0") ∷ (codes "0") ∷ (codes "0") ∷ (codes "0") ∷ (codes "0") ∷ (codes "0") ∷ (codes "0") ∷ (codes "0") ∷ (codes "2") ∷ (codes "2") ∷ (codes "0") ∷ (codes "0") ∷ (codes "0") ∷ [] ∷ [] ∷ [] ∷ [] ∷ []) ∷ [])
+unfolding reading_on_literals running_on_literals columns_of
+case_0_once_forwards_a_whole_batch = refl
+
+-- version-3/once_grows_with_the_batch.toml
+case_0_once_grows_with_the_batch : shown_upto 3 31 [] (codes "# The waiting poll gets one message: its service takes 100 + 50 ms. The next receive gives two: 100 + 2 * 50 ms.\nversion = 3\nhorizon = 400\n[[queue]]\nname = \"q\"\n[[actor]]\nname = \"c\"\nkind = \"consumer\"\nqueue = \"q\"\nbatch = 3\nwait_s = 20\nservice_min_ms = 100\nservice_max_ms = 100\nbatch_service = \"once\"\nservice_each_ms = 50\n[[actor]]\nname = \"s\"\nkind = \"script\"\nqueue = \"q\"\ncalls = \"\"\"\nat,call,body,group,id,delay,receipt,max,wait,timeout,task\n1,send,a,,,,,,,,\n2,send,b,,,,,,,,\n3,send,c,,,,,,,,\n\"\"\"\n")
+    ≡ ran (((codes "at") ∷ (codes "queue") ∷ (codes "agent") ∷ (codes "call") ∷ (codes "answer") ∷ (codes "message") ∷ (codes "receipt") ∷ (codes "detail") ∷ []) ∷
+    ((codes "0") ∷ (codes "q") ∷ (codes "c") ∷ (codes "receive") ∷ (codes "wait") ∷ [] ∷ [] ∷ [] ∷ []) ∷
+    ((codes "1") ∷ (codes "q") ∷ (codes "s") ∷ (codes "send") ∷ (codes "new") ∷ (codes "m-0-0") ∷ [] ∷ digest (codes "a") ∷ []) ∷
+    ((codes "1") ∷ (codes "q") ∷ (codes "c") ∷ (codes "receive") ∷ (codes "ok") ∷ (codes "m-0-0") ∷ (codes "r-0-0-1") ∷ (codes "o-0-0") ∷ []) ∷
+    ((codes "2") ∷ (codes "q") ∷ (codes "s") ∷ (codes "send") ∷ (codes "new") ∷ (codes "m-0-1") ∷ [] ∷ digest (codes "b") ∷ []) ∷
+    ((codes "3") ∷ (codes "q") ∷ (codes "s") ∷ (codes "send") ∷ (codes "new") ∷ (codes "m-0-2") ∷ [] ∷ digest (codes "c") ∷ []) ∷
+    ((codes "151") ∷ (codes "q") ∷ (codes "c") ∷ (codes "delete") ∷ (codes "deleted") ∷ (codes "m-0-0") ∷ (codes "r-0-0-1") ∷ (codes "150") ∷ []) ∷
+    ((codes "152") ∷ (codes "q") ∷ (codes "c") ∷ (codes "receive") ∷ (codes "ok") ∷ (codes "m-0-1") ∷ (codes "r-0-1-1") ∷ (codes "o-0-1") ∷ []) ∷
+    ((codes "152") ∷ (codes "q") ∷ (codes "c") ∷ (codes "receive") ∷ (codes "ok") ∷ (codes "m-0-2") ∷ (codes "r-0-2-1") ∷ (codes "o-0-2") ∷ []) ∷
+    ((codes "352") ∷ (codes "q") ∷ (codes "c") ∷ (codes "delete") ∷ (codes "deleted") ∷ (codes "m-0-1") ∷ (codes "r-0-1-1") ∷ (codes "350") ∷ []) ∷
+    ((codes "353") ∷ (codes "q") ∷ (codes "c") ∷ (codes "delete") ∷ (codes "deleted") ∷ (codes "m-0-2") ∷ (codes "r-0-2-1") ∷ (codes "350") ∷ []) ∷
+    ((codes "354") ∷ (codes "q") ∷ (codes "c") ∷ (codes "receive") ∷ (codes "wait") ∷ [] ∷ [] ∷ [] ∷ []) ∷
+    ((codes "final") ∷ (codes "queue") ∷ (codes "message") ∷ (codes "origin") ∷ (codes "place") ∷ (codes "due") ∷ (codes "enqueued") ∷ (codes "receives") ∷ (codes "group") ∷ (codes "md5") ∷ []) ∷
+    ((codes "transfer") ∷ (codes "from") ∷ (codes "to") ∷ (codes "kind") ∷ (codes "due") ∷ (codes "number") ∷ (codes "message") ∷ (codes "origin") ∷ (codes "md5") ∷ []) ∷
+    ((codes "task") ∷ (codes "name") ∷ (codes "status") ∷ (codes "moved") ∷ []) ∷
+    ((codes "report") ∷ (codes "queue") ∷ (codes "sends") ∷ (codes "repeats") ∷ (codes "receives") ∷ (codes "empties") ∷ (codes "deletes") ∷ (codes "expiries") ∷ (codes "redrives") ∷ (codes "moves") ∷ (codes "arrivals") ∷ (codes "OverLimit") ∷ (codes "MessageNotInflight") ∷ (codes "ReceiptHandleIsInvalid") ∷ (codes "BadTimeout") ∷ (codes "MissingGroup") ∷ (codes "MissingDeduplication") ∷ (codes "BadDelay") ∷ (codes "TaskRunning") ∷ (codes "NoTask") ∷ (codes "depth_max") ∷ (codes "visible") ∷ (codes "in_flight") ∷ (codes "delayed") ∷ (codes "age_sum") ∷ (codes "age_max") ∷ (codes "age_p50") ∷ (codes "age_p95") ∷ (codes "age_p99") ∷ []) ∷
+    ((codes "report") ∷ (codes "q") ∷ (codes "3") ∷ (codes "0") ∷ (codes "3") ∷ (codes "0") ∷ (codes "3") ∷ (codes "0") ∷ (codes "0") ∷ (codes "0") ∷ (codes "0") ∷ (codes "0") ∷ (codes "0") ∷ (codes "0") ∷ (codes "0") ∷ (codes "0") ∷ (codes "0") ∷ (codes "0") ∷ (codes "0") ∷ (codes "0") ∷ (codes "3") ∷ (codes "0") ∷ (codes "0") ∷ (codes "0") ∷ (codes "850") ∷ (codes "350") ∷ (codes "350") ∷ (codes "350") ∷ (codes "350") ∷ []) ∷ [])
+unfolding reading_on_literals running_on_literals columns_of
+case_0_once_grows_with_the_batch = refl
+
+-- version-3/once_in_a_whole_batch.toml
+case_0_once_in_a_whole_batch : shown_upto 3 30 [] (codes "# The service is of all three messages. It takes 100 ms, and 20 ms for each of them, and ends at 170. Then the batch is\n# deleted, 1 ms apart, and 1 ms after the last delete the consumer asks.\nversion = 3\nhorizon = 1000\n[[queue]]\nname = \"q\"\n[[actor]]\nname = \"c\"\nkind = \"consumer\"\nqueue = \"q\"\nstart_ms = 10\nbatch = 3\nwait_s = 20\nservice_min_ms = 100\nservice_max_ms = 100\nbatch_service = \"once\"\nservice_each_ms = 20\nbatch_fails = \"whole\"\n[[actor]]\nname = \"s\"\nkind = \"script\"\nqueue = \"q\"\ncalls = \"\"\"\nat,call,body,group,id,delay,receipt,max,wait,timeout,task\n0,send,a,,,,,,,,\n1,send,b,,,,,,,,\n2,send,c,,,,,,,,\n\"\"\"\n")
+    ≡ ran (((codes "at") ∷ (codes "queue") ∷ (codes "agent") ∷ (codes "call") ∷ (codes "answer") ∷ (codes "message") ∷ (codes "receipt") ∷ (codes "detail") ∷ []) ∷
+    ((codes "0") ∷ (codes "q") ∷ (codes "s") ∷ (codes "send") ∷ (codes "new") ∷ (codes "m-0-0") ∷ [] ∷ digest (codes "a") ∷ []) ∷
+    ((codes "1") ∷ (codes "q") ∷ (codes "s") ∷ (codes "send") ∷ (codes "new") ∷ (codes "m-0-1") ∷ [] ∷ digest (codes "b") ∷ []) ∷
+    ((codes "2") ∷ (codes "q") ∷ (codes "s") ∷ (codes "send") ∷ (codes "new") ∷ (codes "m-0-2") ∷ [] ∷ digest (codes "c") ∷ []) ∷
+    ((codes "10") ∷ (codes "q") ∷ (codes "c") ∷ (codes "receive") ∷ (codes "ok") ∷ (codes "m-0-0") ∷ (codes "r-0-0-1") ∷ (codes "o-0-0") ∷ []) ∷
+    ((codes "10") ∷ (codes "q") ∷ (codes "c") ∷ (codes "receive") ∷ (codes "ok") ∷ (codes "m-0-1") ∷ (codes "r-0-1-1") ∷ (codes "o-0-1") ∷ []) ∷
+    ((codes "10") ∷ (codes "q") ∷ (codes "c") ∷ (codes "receive") ∷ (codes "ok") ∷ (codes "m-0-2") ∷ (codes "r-0-2-1") ∷ (codes "o-0-2") ∷ []) ∷
+    ((codes "170") ∷ (codes "q") ∷ (codes "c") ∷ (codes "delete") ∷ (codes "deleted") ∷ (codes "m-0-0") ∷ (codes "r-0-0-1") ∷ (codes "170") ∷ []) ∷
+    ((codes "171") ∷ (codes "q") ∷ (codes "c") ∷ (codes "delete") ∷ (codes "deleted") ∷ (codes "m-0-1") ∷ (codes "r-0-1-1") ∷ (codes "170") ∷ []) ∷
+    ((codes "172") ∷ (codes "q") ∷ (codes "c") ∷ (codes "delete") ∷ (codes "deleted") ∷ (codes "m-0-2") ∷ (codes "r-0-2-1") ∷ (codes "170") ∷ []) ∷
+    ((codes "173") ∷ (codes "q") ∷ (codes "c") ∷ (codes "receive") ∷ (codes "wait") ∷ [] ∷ [] ∷ [] ∷ []) ∷
+    ((codes "final") ∷ (codes "queue") ∷ (codes "message") ∷ (codes "origin") ∷ (codes "place") ∷ (codes "due") ∷ (codes "enqueued") ∷ (codes "receives") ∷ (codes "group") ∷ (codes "md5") ∷ []) ∷
+    ((codes "transfer") ∷ (codes "from") ∷ (codes "to") ∷ (codes "kind") ∷ (codes "due") ∷ (codes "number") ∷ (codes "message") ∷ (codes "origin") ∷ (codes "md5") ∷ []) ∷
+    ((codes "task") ∷ (codes "name") ∷ (codes "status") ∷ (codes "moved") ∷ []) ∷
+    ((codes "report") ∷ (codes "queue") ∷ (codes "sends") ∷ (codes "repeats") ∷ (codes "receives") ∷ (codes "empties") ∷ (codes "deletes") ∷ (codes "expiries") ∷ (codes "redrives") ∷ (codes "moves") ∷ (codes "arrivals") ∷ (codes "OverLimit") ∷ (codes "MessageNotInflight") ∷ (codes "ReceiptHandleIsInvalid") ∷ (codes "BadTimeout") ∷ (codes "MissingGroup") ∷ (codes "MissingDeduplication") ∷ (codes "BadDelay") ∷ (codes "TaskRunning") ∷ (codes "NoTask") ∷ (codes "depth_max") ∷ (codes "visible") ∷ (codes "in_flight") ∷ (codes "delayed") ∷ (codes "age_sum") ∷ (codes "age_max") ∷ (codes "age_p50") ∷ (codes "age_p95") ∷ (codes "age_p99") ∷ []) ∷
+    ((codes "report") ∷ (codes "q") ∷ (codes "3") ∷ (codes "0") ∷ (codes "3") ∷ (codes "0") ∷ (codes "3") ∷ (codes "0") ∷ (codes "0") ∷ (codes "0") ∷ (codes "0") ∷ (codes "0") ∷ (codes "0") ∷ (codes "0") ∷ (codes "0") ∷ (codes "0") ∷ (codes "0") ∷ (codes "0") ∷ (codes "0") ∷ (codes "0") ∷ (codes "3") ∷ (codes "0") ∷ (codes "0") ∷ (codes "0") ∷ (codes "510") ∷ (codes "170") ∷ (codes "170") ∷ (codes "170") ∷ (codes "170") ∷ []) ∷ [])
+unfolding reading_on_literals running_on_literals columns_of
+case_0_once_in_a_whole_batch = refl
+
+-- version-3/once_lets_a_batch_go.toml
+case_0_once_lets_a_batch_go : shown_upto 3 32 [] (codes "# Without a backoff a batch that fails is let go: 1 ms after the row the consumer asks. At 1010 the messages come back\n# by their timeout, and the poll gets the first.\nversion = 3\nhorizon = 1100\n[[queue]]\nname = \"q\"\nvisibility_s = 1\n[[actor]]\nname = \"c\"\nkind = \"consumer\"\nqueue = \"q\"\nstart_ms = 10\nbatch = 3\nwait_s = 20\nservice_min_ms = 100\nservice_max_ms = 100\nbatch_service = \"once\"\nservice_each_ms = 1\nfails_on = \"bad\"\nbatch_fails = \"whole\"\n[[actor]]\nname = \"s\"\nkind = \"script\"\nqueue = \"q\"\ncalls = \"\"\"\nat,call,body,group,id,delay,receipt,max,wait,timeout,task\n0,send,a,,,,,,,,\n1,send,bad,,,,,,,,\n2,send,c,,,,,,,,\n\"\"\"\n")
+    ≡ ran (((codes "at") ∷ (codes "queue") ∷ (codes "agent") ∷ (codes "call") ∷ (codes "answer") ∷ (codes "message") ∷ (codes "receipt") ∷ (codes "detail") ∷ []) ∷
+    ((codes "0") ∷ (codes "q") ∷ (codes "s") ∷ (codes "send") ∷ (codes "new") ∷ (codes "m-0-0") ∷ [] ∷ digest (codes "a") ∷ []) ∷
+    ((codes "1") ∷ (codes "q") ∷ (codes "s") ∷ (codes "send") ∷ (codes "new") ∷ (codes "m-0-1") ∷ [] ∷ digest (codes "bad") ∷ []) ∷
+    ((codes "2") ∷ (codes "q") ∷ (codes "s") ∷ (codes "send") ∷ (codes "new") ∷ (codes "m-0-2") ∷ [] ∷ digest (codes "c") ∷ []) ∷
+    ((codes "10") ∷ (codes "q") ∷ (codes "c") ∷ (codes "receive") ∷ (codes "ok") ∷ (codes "m-0-0") ∷ (codes "r-0-0-1") ∷ (codes "o-0-0") ∷ []) ∷
+    ((codes "10") ∷ (codes "q") ∷ (codes "c") ∷ (codes "receive") ∷ (codes "ok") ∷ (codes "m-0-1") ∷ (codes "r-0-1-1") ∷ (codes "o-0-1") ∷ []) ∷
+    ((codes "10") ∷ (codes "q") ∷ (codes "c") ∷ (codes "receive") ∷ (codes "ok") ∷ (codes "m-0-2") ∷ (codes "r-0-2-1") ∷ (codes "o-0-2") ∷ []) ∷
+    ((codes "113") ∷ (codes "q") ∷ (codes "c") ∷ (codes "fail") ∷ (codes "ok") ∷ (codes "m-0-0") ∷ (codes "r-0-0-1") ∷ [] ∷ []) ∷
+    ((codes "114") ∷ (codes "q") ∷ (codes "c") ∷ (codes "receive") ∷ (codes "wait") ∷ [] ∷ [] ∷ [] ∷ []) ∷
+    ((codes "1010") ∷ (codes "q") ∷ (codes "q") ∷ (codes "release") ∷ (codes "visible") ∷ (codes "m-0-0") ∷ [] ∷ [] ∷ []) ∷
+    ((codes "1010") ∷ (codes "q") ∷ (codes "c") ∷ (codes "receive") ∷ (codes "ok") ∷ (codes "m-0-0") ∷ (codes "r-0-0-2") ∷ (codes "o-0-0") ∷ []) ∷
+    ((codes "1010") ∷ (codes "q") ∷ (codes "q") ∷ (codes "release") ∷ (codes "visible") ∷ (codes "m-0-1") ∷ [] ∷ [] ∷ []) ∷
+    ((codes "1010") ∷ (codes "q") ∷ (codes "q") ∷ (codes "release") ∷ (codes "visible") ∷ (codes "m-0-2") ∷ [] ∷ [] ∷ []) ∷
+    ((codes "final") ∷ (codes "queue") ∷ (codes "message") ∷ (codes "origin") ∷ (codes "place") ∷ (codes "due") ∷ (codes "enqueued") ∷ (codes "receives") ∷ (codes "group") ∷ (codes "md5") ∷ []) ∷
+    ((codes "final") ∷ (codes "q") ∷ (codes "m-0-0") ∷ (codes "o-0-0") ∷ (codes "inflight") ∷ (codes "2010") ∷ (codes "0") ∷ (codes "2") ∷ [] ∷ digest (codes "a") ∷ []) ∷
+    ((codes "final") ∷ (codes "q") ∷ (codes "m-0-1") ∷ (codes "o-0-1") ∷ (codes "visible") ∷ [] ∷ (codes "1") ∷ (codes "1") ∷ [] ∷ digest (codes "bad") ∷ []) ∷
+    ((codes "final") ∷ (codes "q") ∷ (codes "m-0-2") ∷ (codes "o-0-2") ∷ (codes "visible") ∷ [] ∷ (codes "2") ∷ (codes "1") ∷ [] ∷ digest (codes "c") ∷ []) ∷
+    ((codes "transfer") ∷ (codes "from") ∷ (codes "to") ∷ (codes "kind") ∷ (codes "due") ∷ (codes "number") ∷ (codes "message") ∷ (codes "origin") ∷ (codes "md5") ∷ []) ∷
+    ((codes "task") ∷ (codes "name") ∷ (codes "status") ∷ (codes "moved") ∷ []) ∷
+    ((codes "report") ∷ (codes "queue") ∷ (codes "sends") ∷ (codes "repeats") ∷ (codes "receives") ∷ (codes "empties") ∷ (codes "deletes") ∷ (codes "expiries") ∷ (codes "redrives") ∷ (codes "moves") ∷ (codes "arrivals") ∷ (codes "OverLimit") ∷ (codes "MessageNotInflight") ∷ (codes "ReceiptHandleIsInvalid") ∷ (codes "BadTimeout") ∷ (codes "MissingGroup") ∷ (codes "MissingDeduplication") ∷ (codes "BadDelay") ∷ (codes "TaskRunning") ∷ (codes "NoTask") ∷ (codes "depth_max") ∷ (codes "visible") ∷ (codes "in_flight") ∷ (codes "delayed") ∷ (codes "age_sum") ∷ (codes "age_max") ∷ (codes "age_p50") ∷ (codes "age_p95") ∷ (codes "age_p99") ∷ []) ∷
+    ((codes "report") ∷ (codes "q") ∷ (codes "3") ∷ (codes "0") ∷ (codes "4") ∷ (codes "0") ∷ (codes "0") ∷ (codes "0") ∷ (codes "0") ∷ (codes "0") ∷ (codes "0") ∷ (codes "0") ∷ (codes "0") ∷ (codes "0") ∷ (codes "0") ∷ (codes "0") ∷ (codes "0") ∷ (codes "0") ∷ (codes "0") ∷ (codes "0") ∷ (codes "3") ∷ (codes "2") ∷ (codes "1") ∷ (codes "0") ∷ (codes "0") ∷ [] ∷ [] ∷ [] ∷ [] ∷ []) ∷ [])
+unfolding reading_on_literals running_on_literals columns_of
+case_0_once_lets_a_batch_go = refl
+
+-- version-3/once_outlives_its_timeouts.toml
+case_0_once_outlives_its_timeouts : shown_upto 3 33 [] (codes "# The service of the batch ends at 1009. m-0-0 is deleted then. At 1010 the timeouts end: m-0-1 and m-0-2 are visible\n# again. A FIFO queue refuses a delete of a message that is not in flight, at 1010 and at 1011. At 1012 the consumer\n# gets both again.\nversion = 3\nhorizon = 1500\n[[queue]]\nname = \"q.fifo\"\nvisibility_s = 1\n[[actor]]\nname = \"c\"\nkind = \"consumer\"\nqueue = \"q.fifo\"\nstart_ms = 10\nbatch = 3\nwait_s = 20\nservice_min_ms = 999\nservice_max_ms = 999\nbatch_service = \"once\"\nbatch_fails = \"whole\"\n[[actor]]\nname = \"s\"\nkind = \"script\"\nqueue = \"q.fifo\"\ncalls = \"\"\"\nat,call,body,group,id,delay,receipt,max,wait,timeout,task\n0,send,a,g,1,,,,,,\n1,send,b,h,2,,,,,,\n2,send,c,k,3,,,,,,\n\"\"\"\n")
+    ≡ ran (((codes "at") ∷ (codes "queue") ∷ (codes "agent") ∷ (codes "call") ∷ (codes "answer") ∷ (codes "message") ∷ (codes "receipt") ∷ (codes "detail") ∷ []) ∷
+    ((codes "0") ∷ (codes "q.fifo") ∷ (codes "s") ∷ (codes "send") ∷ (codes "new") ∷ (codes "m-0-0") ∷ [] ∷ digest (codes "a") ∷ []) ∷
+    ((codes "1") ∷ (codes "q.fifo") ∷ (codes "s") ∷ (codes "send") ∷ (codes "new") ∷ (codes "m-0-1") ∷ [] ∷ digest (codes "b") ∷ []) ∷
+    ((codes "2") ∷ (codes "q.fifo") ∷ (codes "s") ∷ (codes "send") ∷ (codes "new") ∷ (codes "m-0-2") ∷ [] ∷ digest (codes "c") ∷ []) ∷
+    ((codes "10") ∷ (codes "q.fifo") ∷ (codes "c") ∷ (codes "receive") ∷ (codes "ok") ∷ (codes "m-0-0") ∷ (codes "r-0-0-1") ∷ (codes "o-0-0") ∷ []) ∷
+    ((codes "10") ∷ (codes "q.fifo") ∷ (codes "c") ∷ (codes "receive") ∷ (codes "ok") ∷ (codes "m-0-1") ∷ (codes "r-0-1-1") ∷ (codes "o-0-1") ∷ []) ∷
+    ((codes "10") ∷ (codes "q.fifo") ∷ (codes "c") ∷ (codes "receive") ∷ (codes "ok") ∷ (codes "m-0-2") ∷ (codes "r-0-2-1") ∷ (codes "o-0-2") ∷ []) ∷
+    ((codes "1009") ∷ (codes "q.fifo") ∷ (codes "c") ∷ (codes "delete") ∷ (codes "deleted") ∷ (codes "m-0-0") ∷ (codes "r-0-0-1") ∷ (codes "1009") ∷ []) ∷
+    ((codes "1010") ∷ (codes "q.fifo") ∷ (codes "q.fifo") ∷ (codes "release") ∷ (codes "visible") ∷ (codes "m-0-1") ∷ [] ∷ [] ∷ []) ∷
+    ((codes "1010") ∷ (codes "q.fifo") ∷ (codes "q.fifo") ∷ (codes "release") ∷ (codes "visible") ∷ (codes "m-0-2") ∷ [] ∷ [] ∷ []) ∷
+    ((codes "1010") ∷ (codes "q.fifo") ∷ (codes "c") ∷ (codes "delete") ∷ (codes "ReceiptHandleIsInvalid") ∷ [] ∷ (codes "r-0-1-1") ∷ [] ∷ []) ∷
+    ((codes "1011") ∷ (codes "q.fifo") ∷ (codes "c") ∷ (codes "delete") ∷ (codes "ReceiptHandleIsInvalid") ∷ [] ∷ (codes "r-0-2-1") ∷ [] ∷ []) ∷
+    ((codes "1012") ∷ (codes "q.fifo") ∷ (codes "c") ∷ (codes "receive") ∷ (codes "ok") ∷ (codes "m-0-1") ∷ (codes "r-0-1-2") ∷ (codes "o-0-1") ∷ []) ∷
+    ((codes "1012") ∷ (codes "q.fifo") ∷ (codes "c") ∷ (codes "receive") ∷ (codes "ok") ∷ (codes "m-0-2") ∷ (codes "r-0-2-2") ∷ (codes "o-0-2") ∷ []) ∷
+    ((codes "final") ∷ (codes "queue") ∷ (codes "message") ∷ (codes "origin") ∷ (codes "place") ∷ (codes "due") ∷ (codes "enqueued") ∷ (codes "receives") ∷ (codes "group") ∷ (codes "md5") ∷ []) ∷
+    ((codes "final") ∷ (codes "q.fifo") ∷ (codes "m-0-1") ∷ (codes "o-0-1") ∷ (codes "inflight") ∷ (codes "2012") ∷ (codes "1") ∷ (codes "2") ∷ (codes "h") ∷ digest (codes "b") ∷ []) ∷
+    ((codes "final") ∷ (codes "q.fifo") ∷ (codes "m-0-2") ∷ (codes "o-0-2") ∷ (codes "inflight") ∷ (codes "2012") ∷ (codes "2") ∷ (codes "2") ∷ (codes "k") ∷ digest (codes "c") ∷ []) ∷
+    ((codes "transfer") ∷ (codes "from") ∷ (codes "to") ∷ (codes "kind") ∷ (codes "due") ∷ (codes "number") ∷ (codes "message") ∷ (codes "origin") ∷ (codes "md5") ∷ []) ∷
+    ((codes "task") ∷ (codes "name") ∷ (codes "status") ∷ (codes "moved") ∷ []) ∷
+    ((codes "report") ∷ (codes "queue") ∷ (codes "sends") ∷ (codes "repeats") ∷ (codes "receives") ∷ (codes "empties") ∷ (codes "deletes") ∷ (codes "expiries") ∷ (codes "redrives") ∷ (codes "moves") ∷ (codes "arrivals") ∷ (codes "OverLimit") ∷ (codes "MessageNotInflight") ∷ (codes "ReceiptHandleIsInvalid") ∷ (codes "BadTimeout") ∷ (codes "MissingGroup") ∷ (codes "MissingDeduplication") ∷ (codes "BadDelay") ∷ (codes "TaskRunning") ∷ (codes "NoTask") ∷ (codes "depth_max") ∷ (codes "visible") ∷ (codes "in_flight") ∷ (codes "delayed") ∷ (codes "age_sum") ∷ (codes "age_max") ∷ (codes "age_p50") ∷ (codes "age_p95") ∷ (codes "age_p99") ∷ []) ∷
+    ((codes "report") ∷ (codes "q.fifo") ∷ (codes "3") ∷ (codes "0") ∷ (codes "5") ∷ (codes "0") ∷ (codes "1") ∷ (codes "0") ∷ (codes "0") ∷ (codes "0") ∷ (codes "0") ∷ (codes "0") ∷ (codes "0") ∷ (codes "2") ∷ (codes "0") ∷ (codes "0") ∷ (codes "0") ∷ (codes "0") ∷ (codes "0") ∷ (codes "0") ∷ (codes "3") ∷ (codes "0") ∷ (codes "2") ∷ (codes "0") ∷ (codes "1009") ∷ (codes "1009") ∷ (codes "1009") ∷ (codes "1009") ∷ (codes "1009") ∷ []) ∷ [])
+unfolding reading_on_literals running_on_literals columns_of
+case_0_once_outlives_its_timeouts = refl
+
+-- version-3/once_with_poison_in_second_place.toml
+case_0_once_with_poison_in_second_place : shown_upto 3 42 [] (codes "# m-0-1 is poison. The service of the batch ends at 110 and fails as a whole; the row is of the first message. The\n# backoff of 1 s is set for all three, 1 ms apart. They come back at 1110, 1111 and 1112. The poll gets m-0-0 alone,\n# whose service ends well at 1210. Then m-0-1 and m-0-2 are one batch, which fails at 1311; the row is of m-0-1.\nversion = 3\nhorizon = 1313\n[[queue]]\nname = \"q\"\n[[actor]]\nname = \"c\"\nkind = \"consumer\"\nqueue = \"q\"\nstart_ms = 10\nbatch = 3\nwait_s = 20\nservice_min_ms = 100\nservice_max_ms = 100\nbatch_service = \"once\"\nfails_on = \"bad\"\nbatch_fails = \"whole\"\nbackoff_s = [1]\n[[actor]]\nname = \"s\"\nkind = \"script\"\nqueue = \"q\"\ncalls = \"\"\"\nat,call,body,group,id,delay,receipt,max,wait,timeout,task\n0,send,a,,,,,,,,\n1,send,bad,,,,,,,,\n2,send,c,,,,,,,,\n\"\"\"\n")
+    ≡ ran (((codes "at") ∷ (codes "queue") ∷ (codes "agent") ∷ (codes "call") ∷ (codes "answer") ∷ (codes "message") ∷ (codes "receipt") ∷ (codes "detail") ∷ []) ∷
+    ((codes "0") ∷ (codes "q") ∷ (codes "s") ∷ (codes "send") ∷ (codes "new") ∷ (codes "m-0-0") ∷ [] ∷ digest (codes "a") ∷ []) ∷
+    ((codes "1") ∷ (codes "q") ∷ (codes "s") ∷ (codes "send") ∷ (codes "new") ∷ (codes "m-0-1") ∷ [] ∷ digest (codes "bad") ∷ []) ∷
+    ((codes "2") ∷ (codes "q") ∷ (codes "s") ∷ (codes "send") ∷ (codes "new") ∷ (codes "m-0-2") ∷ [] ∷ digest (codes "c") ∷ []) ∷
+    ((codes "10") ∷ (codes "q") ∷ (codes "c") ∷ (codes "receive") ∷ (codes "ok") ∷ (codes "m-0-0") ∷ (codes "r-0-0-1") ∷ (codes "o-0-0") ∷ []) ∷
+    ((codes "10") ∷ (codes "q") ∷ (codes "c") ∷ (codes "receive") ∷ (codes "ok") ∷ (codes "m-0-1") ∷ (codes "r-0-1-1") ∷ (codes "o-0-1") ∷ []) ∷
+    ((codes "10") ∷ (codes "q") ∷ (codes "c") ∷ (codes "receive") ∷ (codes "ok") ∷ (codes "m-0-2") ∷ (codes "r-0-2-1") ∷ (codes "o-0-2") ∷ []) ∷
+    ((codes "110") ∷ (codes "q") ∷ (codes "c") ∷ (codes "fail") ∷ (codes "ok") ∷ (codes "m-0-0") ∷ (codes "r-0-0-1") ∷ [] ∷ []) ∷
+    ((codes "110") ∷ (codes "q") ∷ (codes "c") ∷ (codes "change") ∷ (codes "ok") ∷ (codes "m-0-0") ∷ (codes "r-0-0-1") ∷ (codes "1") ∷ []) ∷
+    ((codes "111") ∷ (codes "q") ∷ (codes "c") ∷ (codes "change") ∷ (codes "ok") ∷ (codes "m-0-1") ∷ (codes "r-0-1-1") ∷ (codes "1") ∷ []) ∷
+    ((codes "112") ∷ (codes "q") ∷ (codes "c") ∷ (codes "change") ∷ (codes "ok") ∷ (codes "m-0-2") ∷ (codes "r-0-2-1") ∷ (codes "1") ∷ []) ∷
+    ((codes "113") ∷ (codes "q") ∷ (codes "c") ∷ (codes "receive") ∷ (codes "wait") ∷ [] ∷ [] ∷ [] ∷ []) ∷
+    ((codes "1110") ∷ (codes "q") ∷ (codes "q") ∷ (codes "release") ∷ (codes "visible") ∷ (codes "m-0-0") ∷ [] ∷ [] ∷ []) ∷
+    ((codes "1110") ∷ (codes "q") ∷ (codes "c") ∷ (codes "receive") ∷ (codes "ok") ∷ (codes "m-0-0") ∷ (codes "r-0-0-2") ∷ (codes "o-0-0") ∷ []) ∷
+    ((codes "1111") ∷ (codes "q") ∷ (codes "q") ∷ (codes "release") ∷ (codes "visible") ∷ (codes "m-0-1") ∷ [] ∷ [] ∷ []) ∷
+    ((codes "1112") ∷ (codes "q") ∷ (codes "q") ∷ (codes "release") ∷ (codes "visible") ∷ (codes "m-0-2") ∷ [] ∷ [] ∷ []) ∷
+    ((codes "1210") ∷ (codes "q") ∷ (codes "c") ∷ (codes "delete") ∷ (codes "deleted") ∷ (codes "m-0-0") ∷ (codes "r-0-0-2") ∷ (codes "1210") ∷ []) ∷
+    ((codes "1211") ∷ (codes "q") ∷ (codes "c") ∷ (codes "receive") ∷ (codes "ok") ∷ (codes "m-0-1") ∷ (codes "r-0-1-2") ∷ (codes "o-0-1") ∷ []) ∷
+    ((codes "1211") ∷ (codes "q") ∷ (codes "c") ∷ (codes "receive") ∷ (codes "ok") ∷ (codes "m-0-2") ∷ (codes "r-0-2-2") ∷ (codes "o-0-2") ∷ []) ∷
+    ((codes "1311") ∷ (codes "q") ∷ (codes "c") ∷ (codes "fail") ∷ (codes "ok") ∷ (codes "m-0-1") ∷ (codes "r-0-1-2") ∷ [] ∷ []) ∷
+    ((codes "1311") ∷ (codes "q") ∷ (codes "c") ∷ (codes "change") ∷ (codes "ok") ∷ (codes "m-0-1") ∷ (codes "r-0-1-2") ∷ (codes "1") ∷ []) ∷
+    ((codes "1312") ∷ (codes "q") ∷ (codes "c") ∷ (codes "change") ∷ (codes "ok") ∷ (codes "m-0-2") ∷ (codes "r-0-2-2") ∷ (codes "1") ∷ []) ∷
+    ((codes "1313") ∷ (codes "q") ∷ (codes "c") ∷ (codes "receive") ∷ (codes "wait") ∷ [] ∷ [] ∷ [] ∷ []) ∷
+    ((codes "final") ∷ (codes "queue") ∷ (codes "message") ∷ (codes "origin") ∷ (codes "place") ∷ (codes "due") ∷ (codes "enqueued") ∷ (codes "receives") ∷ (codes "group") ∷ (codes "md5") ∷ []) ∷
+    ((codes "final") ∷ (codes "q") ∷ (codes "m-0-1") ∷ (codes "o-0-1") ∷ (codes "inflight") ∷ (codes "2311") ∷ (codes "1") ∷ (codes "2") ∷ [] ∷ digest (codes "bad") ∷ []) ∷
+    ((codes "final") ∷ (codes "q") ∷ (codes "m-0-2") ∷ (codes "o-0-2") ∷ (codes "inflight") ∷ (codes "2312") ∷ (codes "2") ∷ (codes "2") ∷ [] ∷ digest (codes "c") ∷ []) ∷
+    ((codes "transfer") ∷ (codes "from") ∷ (codes "to") ∷ (codes "kind") ∷ (codes "due") ∷ (codes "number") ∷ (codes "message") ∷ (codes "origin") ∷ (codes "md5") ∷ []) ∷
+    ((codes "task") ∷ (codes "name") ∷ (codes "status") ∷ (codes "moved") ∷ []) ∷
+    ((codes "report") ∷ (codes "queue") ∷ (codes "sends") ∷ (codes "repeats") ∷ (codes "receives") ∷ (codes "empties") ∷ (codes "deletes") ∷ (codes "expiries") ∷ (codes "redrives") ∷ (codes "moves") ∷ (codes "arrivals") ∷ (codes "OverLimit") ∷ (codes "MessageNotInflight") ∷ (codes "ReceiptHandleIsInvalid") ∷ (codes "BadTimeout") ∷ (codes "MissingGroup") ∷ (codes "MissingDeduplication") ∷ (codes "BadDelay") ∷ (codes "TaskRunning") ∷ (codes "NoTask") ∷ (codes "depth_max") ∷ (codes "visible") ∷ (codes "in_flight") ∷ (codes "delayed") ∷ (codes "age_sum") ∷ (codes "age_max") ∷ (codes "age_p50") ∷ (codes "age_p95") ∷ (codes "age_p99") ∷ []) ∷
+    ((codes "report") ∷ (codes "q") ∷ (codes "3") ∷ (codes "0") ∷ (codes "6") ∷ (codes "0") ∷ (codes "1") ∷ (codes "0") ∷ (codes "0") ∷ (codes "0") ∷ (codes "0") ∷ (codes "0") ∷ (codes "0") ∷ (codes "0") ∷ (codes "0") ∷ (codes "0") ∷ (codes "0") ∷ (codes "0") ∷ (codes "0") ∷ (codes "0") ∷ (codes "3") ∷ (codes "0") ∷ (codes "2") ∷ (codes "0") ∷ (codes "1210") ∷ (codes "1210") ∷ (codes "1210") ∷ (codes "1210") ∷ (codes "1210") ∷ []) ∷ [])
+unfolding reading_on_literals running_on_literals columns_of
+case_0_once_with_poison_in_second_place = refl
 
 -- version-3/outage.toml
 case_0_outage : shown_upto 3 34 [] (codes "# Services of c end at 200 (the outage begins: fails), 300 (fails) and 400 (the outage is over). That of d ends at 199.\nversion = 3\nhorizon = 1000\n[[queue]]\nname = \"q\"\n[[queue]]\nname = \"p\"\n[[actor]]\nname = \"c\"\nkind = \"consumer\"\nqueue = \"q\"\nstart_ms = 100\nbatch = 3\nwait_s = 20\nservice_min_ms = 100\nservice_max_ms = 100\nfails_from_ms = 200\nfails_to_ms = 400\n[[actor]]\nname = \"d\"\nkind = \"consumer\"\nqueue = \"p\"\nstart_ms = 99\nwait_s = 20\nservice_min_ms = 100\nservice_max_ms = 100\nfails_from_ms = 200\nfails_to_ms = 400\n[[actor]]\nname = \"s\"\nkind = \"script\"\nqueue = \"q\"\ncalls = \"\"\"\nat,call,body,group,id,delay,receipt,max,wait,timeout,task\n0,send,a,,,,,,,,\n1,send,b,,,,,,,,\n2,send,c,,,,,,,,\n\"\"\"\n[[actor]]\nname = \"t\"\nkind = \"script\"\nqueue = \"p\"\ncalls = \"\"\"\nat,call,body,group,id,delay,receipt,max,wait,timeout,task\n0,send,a,,,,,,,,\n\"\"\"\n")
@@ -542,6 +845,51 @@ case_0_outage_in_a_whole_batch : shown_upto 3 33 [] (codes "# The service of m-0
 unfolding reading_on_literals running_on_literals columns_of
 case_0_outage_in_a_whole_batch = refl
 
+-- version-3/outage_while_a_batch_is_decided.toml
+case_0_outage_while_a_batch_is_decided : shown_upto 3 30 [] (codes "# The service of the batch ends at 110. Its messages are decided at 110, 111 and 112, each by its own moment: the outage\n# is at 111 alone.\nversion = 3\nhorizon = 1000\n[[queue]]\nname = \"q\"\n[[actor]]\nname = \"c\"\nkind = \"consumer\"\nqueue = \"q\"\nstart_ms = 10\nbatch = 3\nwait_s = 20\nservice_min_ms = 100\nservice_max_ms = 100\nbatch_service = \"once\"\nfails_between_ms = [[111, 112]]\n[[actor]]\nname = \"s\"\nkind = \"script\"\nqueue = \"q\"\ncalls = \"\"\"\nat,call,body,group,id,delay,receipt,max,wait,timeout,task\n0,send,a,,,,,,,,\n1,send,b,,,,,,,,\n2,send,c,,,,,,,,\n\"\"\"\n")
+    ≡ ran (((codes "at") ∷ (codes "queue") ∷ (codes "agent") ∷ (codes "call") ∷ (codes "answer") ∷ (codes "message") ∷ (codes "receipt") ∷ (codes "detail") ∷ []) ∷
+    ((codes "0") ∷ (codes "q") ∷ (codes "s") ∷ (codes "send") ∷ (codes "new") ∷ (codes "m-0-0") ∷ [] ∷ digest (codes "a") ∷ []) ∷
+    ((codes "1") ∷ (codes "q") ∷ (codes "s") ∷ (codes "send") ∷ (codes "new") ∷ (codes "m-0-1") ∷ [] ∷ digest (codes "b") ∷ []) ∷
+    ((codes "2") ∷ (codes "q") ∷ (codes "s") ∷ (codes "send") ∷ (codes "new") ∷ (codes "m-0-2") ∷ [] ∷ digest (codes "c") ∷ []) ∷
+    ((codes "10") ∷ (codes "q") ∷ (codes "c") ∷ (codes "receive") ∷ (codes "ok") ∷ (codes "m-0-0") ∷ (codes "r-0-0-1") ∷ (codes "o-0-0") ∷ []) ∷
+    ((codes "10") ∷ (codes "q") ∷ (codes "c") ∷ (codes "receive") ∷ (codes "ok") ∷ (codes "m-0-1") ∷ (codes "r-0-1-1") ∷ (codes "o-0-1") ∷ []) ∷
+    ((codes "10") ∷ (codes "q") ∷ (codes "c") ∷ (codes "receive") ∷ (codes "ok") ∷ (codes "m-0-2") ∷ (codes "r-0-2-1") ∷ (codes "o-0-2") ∷ []) ∷
+    ((codes "110") ∷ (codes "q") ∷ (codes "c") ∷ (codes "delete") ∷ (codes "deleted") ∷ (codes "m-0-0") ∷ (codes "r-0-0-1") ∷ (codes "110") ∷ []) ∷
+    ((codes "111") ∷ (codes "q") ∷ (codes "c") ∷ (codes "fail") ∷ (codes "ok") ∷ (codes "m-0-1") ∷ (codes "r-0-1-1") ∷ [] ∷ []) ∷
+    ((codes "112") ∷ (codes "q") ∷ (codes "c") ∷ (codes "delete") ∷ (codes "deleted") ∷ (codes "m-0-2") ∷ (codes "r-0-2-1") ∷ (codes "110") ∷ []) ∷
+    ((codes "113") ∷ (codes "q") ∷ (codes "c") ∷ (codes "receive") ∷ (codes "wait") ∷ [] ∷ [] ∷ [] ∷ []) ∷
+    ((codes "final") ∷ (codes "queue") ∷ (codes "message") ∷ (codes "origin") ∷ (codes "place") ∷ (codes "due") ∷ (codes "enqueued") ∷ (codes "receives") ∷ (codes "group") ∷ (codes "md5") ∷ []) ∷
+    ((codes "final") ∷ (codes "q") ∷ (codes "m-0-1") ∷ (codes "o-0-1") ∷ (codes "inflight") ∷ (codes "30010") ∷ (codes "1") ∷ (codes "1") ∷ [] ∷ digest (codes "b") ∷ []) ∷
+    ((codes "transfer") ∷ (codes "from") ∷ (codes "to") ∷ (codes "kind") ∷ (codes "due") ∷ (codes "number") ∷ (codes "message") ∷ (codes "origin") ∷ (codes "md5") ∷ []) ∷
+    ((codes "task") ∷ (codes "name") ∷ (codes "status") ∷ (codes "moved") ∷ []) ∷
+    ((codes "report") ∷ (codes "queue") ∷ (codes "sends") ∷ (codes "repeats") ∷ (codes "receives") ∷ (codes "empties") ∷ (codes "deletes") ∷ (codes "expiries") ∷ (codes "redrives") ∷ (codes "moves") ∷ (codes "arrivals") ∷ (codes "OverLimit") ∷ (codes "MessageNotInflight") ∷ (codes "ReceiptHandleIsInvalid") ∷ (codes "BadTimeout") ∷ (codes "MissingGroup") ∷ (codes "MissingDeduplication") ∷ (codes "BadDelay") ∷ (codes "TaskRunning") ∷ (codes "NoTask") ∷ (codes "depth_max") ∷ (codes "visible") ∷ (codes "in_flight") ∷ (codes "delayed") ∷ (codes "age_sum") ∷ (codes "age_max") ∷ (codes "age_p50") ∷ (codes "age_p95") ∷ (codes "age_p99") ∷ []) ∷
+    ((codes "report") ∷ (codes "q") ∷ (codes "3") ∷ (codes "0") ∷ (codes "3") ∷ (codes "0") ∷ (codes "2") ∷ (codes "0") ∷ (codes "0") ∷ (codes "0") ∷ (codes "0") ∷ (codes "0") ∷ (codes "0") ∷ (codes "0") ∷ (codes "0") ∷ (codes "0") ∷ (codes "0") ∷ (codes "0") ∷ (codes "0") ∷ (codes "0") ∷ (codes "3") ∷ (codes "0") ∷ (codes "1") ∷ (codes "0") ∷ (codes "220") ∷ (codes "110") ∷ (codes "110") ∷ (codes "110") ∷ (codes "110") ∷ []) ∷ [])
+unfolding reading_on_literals running_on_literals columns_of
+case_0_outage_while_a_batch_is_decided = refl
+
+-- version-3/outage_with_a_chance_of_zero.toml
+case_0_outage_with_a_chance_of_zero : shown_upto 3 30 [] (codes "# Services end at 100, 150 and 200. In the outage, from 100 to 199, none fails by chance, but the poison fails. At 200\n# all fail.\nversion = 3\nhorizon = 1000\n[[queue]]\nname = \"q\"\n[[actor]]\nname = \"c\"\nkind = \"consumer\"\nqueue = \"q\"\nstart_ms = 50\nbatch = 3\nwait_s = 20\nservice_min_ms = 50\nservice_max_ms = 50\nfail_permille = 1000\nfails_on = \"bad\"\nfails_from_ms = 100\nfails_to_ms = 200\nfails_permille = 0\n[[actor]]\nname = \"s\"\nkind = \"script\"\nqueue = \"q\"\ncalls = \"\"\"\nat,call,body,group,id,delay,receipt,max,wait,timeout,task\n0,send,a,,,,,,,,\n1,send,bad,,,,,,,,\n2,send,c,,,,,,,,\n\"\"\"\n")
+    ≡ ran (((codes "at") ∷ (codes "queue") ∷ (codes "agent") ∷ (codes "call") ∷ (codes "answer") ∷ (codes "message") ∷ (codes "receipt") ∷ (codes "detail") ∷ []) ∷
+    ((codes "0") ∷ (codes "q") ∷ (codes "s") ∷ (codes "send") ∷ (codes "new") ∷ (codes "m-0-0") ∷ [] ∷ digest (codes "a") ∷ []) ∷
+    ((codes "1") ∷ (codes "q") ∷ (codes "s") ∷ (codes "send") ∷ (codes "new") ∷ (codes "m-0-1") ∷ [] ∷ digest (codes "bad") ∷ []) ∷
+    ((codes "2") ∷ (codes "q") ∷ (codes "s") ∷ (codes "send") ∷ (codes "new") ∷ (codes "m-0-2") ∷ [] ∷ digest (codes "c") ∷ []) ∷
+    ((codes "50") ∷ (codes "q") ∷ (codes "c") ∷ (codes "receive") ∷ (codes "ok") ∷ (codes "m-0-0") ∷ (codes "r-0-0-1") ∷ (codes "o-0-0") ∷ []) ∷
+    ((codes "50") ∷ (codes "q") ∷ (codes "c") ∷ (codes "receive") ∷ (codes "ok") ∷ (codes "m-0-1") ∷ (codes "r-0-1-1") ∷ (codes "o-0-1") ∷ []) ∷
+    ((codes "50") ∷ (codes "q") ∷ (codes "c") ∷ (codes "receive") ∷ (codes "ok") ∷ (codes "m-0-2") ∷ (codes "r-0-2-1") ∷ (codes "o-0-2") ∷ []) ∷
+    ((codes "100") ∷ (codes "q") ∷ (codes "c") ∷ (codes "delete") ∷ (codes "deleted") ∷ (codes "m-0-0") ∷ (codes "r-0-0-1") ∷ (codes "100") ∷ []) ∷
+    ((codes "150") ∷ (codes "q") ∷ (codes "c") ∷ (codes "fail") ∷ (codes "ok") ∷ (codes "m-0-1") ∷ (codes "r-0-1-1") ∷ [] ∷ []) ∷
+    ((codes "200") ∷ (codes "q") ∷ (codes "c") ∷ (codes "fail") ∷ (codes "ok") ∷ (codes "m-0-2") ∷ (codes "r-0-2-1") ∷ [] ∷ []) ∷
+    ((codes "201") ∷ (codes "q") ∷ (codes "c") ∷ (codes "receive") ∷ (codes "wait") ∷ [] ∷ [] ∷ [] ∷ []) ∷
+    ((codes "final") ∷ (codes "queue") ∷ (codes "message") ∷ (codes "origin") ∷ (codes "place") ∷ (codes "due") ∷ (codes "enqueued") ∷ (codes "receives") ∷ (codes "group") ∷ (codes "md5") ∷ []) ∷
+    ((codes "final") ∷ (codes "q") ∷ (codes "m-0-1") ∷ (codes "o-0-1") ∷ (codes "inflight") ∷ (codes "30050") ∷ (codes "1") ∷ (codes "1") ∷ [] ∷ digest (codes "bad") ∷ []) ∷
+    ((codes "final") ∷ (codes "q") ∷ (codes "m-0-2") ∷ (codes "o-0-2") ∷ (codes "inflight") ∷ (codes "30050") ∷ (codes "2") ∷ (codes "1") ∷ [] ∷ digest (codes "c") ∷ []) ∷
+    ((codes "transfer") ∷ (codes "from") ∷ (codes "to") ∷ (codes "kind") ∷ (codes "due") ∷ (codes "number") ∷ (codes "message") ∷ (codes "origin") ∷ (codes "md5") ∷ []) ∷
+    ((codes "task") ∷ (codes "name") ∷ (codes "status") ∷ (codes "moved") ∷ []) ∷
+    ((codes "report") ∷ (codes "queue") ∷ (codes "sends") ∷ (codes "repeats") ∷ (codes "receives") ∷ (codes "empties") ∷ (codes "deletes") ∷ (codes "expiries") ∷ (codes "redrives") ∷ (codes "moves") ∷ (codes "arrivals") ∷ (codes "OverLimit") ∷ (codes "MessageNotInflight") ∷ (codes "ReceiptHandleIsInvalid") ∷ (codes "BadTimeout") ∷ (codes "MissingGroup") ∷ (codes "MissingDeduplication") ∷ (codes "BadDelay") ∷ (codes "TaskRunning") ∷ (codes "NoTask") ∷ (codes "depth_max") ∷ (codes "visible") ∷ (codes "in_flight") ∷ (codes "delayed") ∷ (codes "age_sum") ∷ (codes "age_max") ∷ (codes "age_p50") ∷ (codes "age_p95") ∷ (codes "age_p99") ∷ []) ∷
+    ((codes "report") ∷ (codes "q") ∷ (codes "3") ∷ (codes "0") ∷ (codes "3") ∷ (codes "0") ∷ (codes "1") ∷ (codes "0") ∷ (codes "0") ∷ (codes "0") ∷ (codes "0") ∷ (codes "0") ∷ (codes "0") ∷ (codes "0") ∷ (codes "0") ∷ (codes "0") ∷ (codes "0") ∷ (codes "0") ∷ (codes "0") ∷ (codes "0") ∷ (codes "3") ∷ (codes "0") ∷ (codes "2") ∷ (codes "0") ∷ (codes "100") ∷ (codes "100") ∷ (codes "100") ∷ (codes "100") ∷ (codes "100") ∷ []) ∷ [])
+unfolding reading_on_literals running_on_literals columns_of
+case_0_outage_with_a_chance_of_zero = refl
+
 -- version-3/outage_with_dead_letters.toml
 case_0_outage_with_dead_letters : shown_upto 3 41 [] (codes "# During the outage, from 0 to 3000, m-0-0 fails twice and leaves for the dead-letter queue at 2210. m-0-1 of 2500 fails\n# once, at 2600; its second service ends at 3700, after the outage.\nversion = 3\nhorizon = 4000\n[[queue]]\nname = \"q\"\ndead_letter = \"d\"\nmax_receives = 2\nlatency_min_ms = 20\nlatency_max_ms = 20\n[[queue]]\nname = \"d\"\n[[actor]]\nname = \"c\"\nkind = \"consumer\"\nqueue = \"q\"\nstart_ms = 10\nwait_s = 20\nservice_min_ms = 100\nservice_max_ms = 100\nfails_from_ms = 0\nfails_to_ms = 3000\nbackoff_s = [1]\n[[actor]]\nname = \"s\"\nkind = \"script\"\nqueue = \"q\"\ncalls = \"\"\"\nat,call,body,group,id,delay,receipt,max,wait,timeout,task\n0,send,a,,,,,,,,\n2500,send,b,,,,,,,,\n\"\"\"\n")
     ≡ ran (((codes "at") ∷ (codes "queue") ∷ (codes "agent") ∷ (codes "call") ∷ (codes "answer") ∷ (codes "message") ∷ (codes "receipt") ∷ (codes "detail") ∷ []) ∷
@@ -575,6 +923,71 @@ case_0_outage_with_dead_letters : shown_upto 3 41 [] (codes "# During the outage
     ((codes "report") ∷ (codes "d") ∷ (codes "0") ∷ (codes "0") ∷ (codes "0") ∷ (codes "0") ∷ (codes "0") ∷ (codes "0") ∷ (codes "0") ∷ (codes "0") ∷ (codes "1") ∷ (codes "0") ∷ (codes "0") ∷ (codes "0") ∷ (codes "0") ∷ (codes "0") ∷ (codes "0") ∷ (codes "0") ∷ (codes "0") ∷ (codes "0") ∷ (codes "1") ∷ (codes "1") ∷ (codes "0") ∷ (codes "0") ∷ (codes "0") ∷ [] ∷ [] ∷ [] ∷ [] ∷ []) ∷ [])
 unfolding reading_on_literals running_on_literals columns_of
 case_0_outage_with_dead_letters = refl
+
+-- version-3/outages_one_after_another.toml
+case_0_outages_one_after_another : shown_upto 3 39 [] (codes "# Without fails_permille each service that ends in an outage fails. At 200 the first outage is over and the second\n# begins. The third is empty.\nversion = 3\nhorizon = 1000\n[[queue]]\nname = \"q\"\n[[actor]]\nname = \"c\"\nkind = \"consumer\"\nqueue = \"q\"\nstart_ms = 50\nbatch = 6\nwait_s = 20\nservice_min_ms = 50\nservice_max_ms = 50\nfails_between_ms = [[150, 200], [200, 250], [300, 300]]\n[[actor]]\nname = \"s\"\nkind = \"script\"\nqueue = \"q\"\ncalls = \"\"\"\nat,call,body,group,id,delay,receipt,max,wait,timeout,task\n0,send,a,,,,,,,,\n1,send,b,,,,,,,,\n2,send,c,,,,,,,,\n3,send,a,,,,,,,,\n4,send,b,,,,,,,,\n5,send,c,,,,,,,,\n\"\"\"\n")
+    ≡ ran (((codes "at") ∷ (codes "queue") ∷ (codes "agent") ∷ (codes "call") ∷ (codes "answer") ∷ (codes "message") ∷ (codes "receipt") ∷ (codes "detail") ∷ []) ∷
+    ((codes "0") ∷ (codes "q") ∷ (codes "s") ∷ (codes "send") ∷ (codes "new") ∷ (codes "m-0-0") ∷ [] ∷ digest (codes "a") ∷ []) ∷
+    ((codes "1") ∷ (codes "q") ∷ (codes "s") ∷ (codes "send") ∷ (codes "new") ∷ (codes "m-0-1") ∷ [] ∷ digest (codes "b") ∷ []) ∷
+    ((codes "2") ∷ (codes "q") ∷ (codes "s") ∷ (codes "send") ∷ (codes "new") ∷ (codes "m-0-2") ∷ [] ∷ digest (codes "c") ∷ []) ∷
+    ((codes "3") ∷ (codes "q") ∷ (codes "s") ∷ (codes "send") ∷ (codes "new") ∷ (codes "m-0-3") ∷ [] ∷ digest (codes "a") ∷ []) ∷
+    ((codes "4") ∷ (codes "q") ∷ (codes "s") ∷ (codes "send") ∷ (codes "new") ∷ (codes "m-0-4") ∷ [] ∷ digest (codes "b") ∷ []) ∷
+    ((codes "5") ∷ (codes "q") ∷ (codes "s") ∷ (codes "send") ∷ (codes "new") ∷ (codes "m-0-5") ∷ [] ∷ digest (codes "c") ∷ []) ∷
+    ((codes "50") ∷ (codes "q") ∷ (codes "c") ∷ (codes "receive") ∷ (codes "ok") ∷ (codes "m-0-0") ∷ (codes "r-0-0-1") ∷ (codes "o-0-0") ∷ []) ∷
+    ((codes "50") ∷ (codes "q") ∷ (codes "c") ∷ (codes "receive") ∷ (codes "ok") ∷ (codes "m-0-1") ∷ (codes "r-0-1-1") ∷ (codes "o-0-1") ∷ []) ∷
+    ((codes "50") ∷ (codes "q") ∷ (codes "c") ∷ (codes "receive") ∷ (codes "ok") ∷ (codes "m-0-2") ∷ (codes "r-0-2-1") ∷ (codes "o-0-2") ∷ []) ∷
+    ((codes "50") ∷ (codes "q") ∷ (codes "c") ∷ (codes "receive") ∷ (codes "ok") ∷ (codes "m-0-3") ∷ (codes "r-0-3-1") ∷ (codes "o-0-3") ∷ []) ∷
+    ((codes "50") ∷ (codes "q") ∷ (codes "c") ∷ (codes "receive") ∷ (codes "ok") ∷ (codes "m-0-4") ∷ (codes "r-0-4-1") ∷ (codes "o-0-4") ∷ []) ∷
+    ((codes "50") ∷ (codes "q") ∷ (codes "c") ∷ (codes "receive") ∷ (codes "ok") ∷ (codes "m-0-5") ∷ (codes "r-0-5-1") ∷ (codes "o-0-5") ∷ []) ∷
+    ((codes "100") ∷ (codes "q") ∷ (codes "c") ∷ (codes "delete") ∷ (codes "deleted") ∷ (codes "m-0-0") ∷ (codes "r-0-0-1") ∷ (codes "100") ∷ []) ∷
+    ((codes "150") ∷ (codes "q") ∷ (codes "c") ∷ (codes "fail") ∷ (codes "ok") ∷ (codes "m-0-1") ∷ (codes "r-0-1-1") ∷ [] ∷ []) ∷
+    ((codes "200") ∷ (codes "q") ∷ (codes "c") ∷ (codes "fail") ∷ (codes "ok") ∷ (codes "m-0-2") ∷ (codes "r-0-2-1") ∷ [] ∷ []) ∷
+    ((codes "250") ∷ (codes "q") ∷ (codes "c") ∷ (codes "delete") ∷ (codes "deleted") ∷ (codes "m-0-3") ∷ (codes "r-0-3-1") ∷ (codes "247") ∷ []) ∷
+    ((codes "300") ∷ (codes "q") ∷ (codes "c") ∷ (codes "delete") ∷ (codes "deleted") ∷ (codes "m-0-4") ∷ (codes "r-0-4-1") ∷ (codes "296") ∷ []) ∷
+    ((codes "350") ∷ (codes "q") ∷ (codes "c") ∷ (codes "delete") ∷ (codes "deleted") ∷ (codes "m-0-5") ∷ (codes "r-0-5-1") ∷ (codes "345") ∷ []) ∷
+    ((codes "351") ∷ (codes "q") ∷ (codes "c") ∷ (codes "receive") ∷ (codes "wait") ∷ [] ∷ [] ∷ [] ∷ []) ∷
+    ((codes "final") ∷ (codes "queue") ∷ (codes "message") ∷ (codes "origin") ∷ (codes "place") ∷ (codes "due") ∷ (codes "enqueued") ∷ (codes "receives") ∷ (codes "group") ∷ (codes "md5") ∷ []) ∷
+    ((codes "final") ∷ (codes "q") ∷ (codes "m-0-1") ∷ (codes "o-0-1") ∷ (codes "inflight") ∷ (codes "30050") ∷ (codes "1") ∷ (codes "1") ∷ [] ∷ digest (codes "b") ∷ []) ∷
+    ((codes "final") ∷ (codes "q") ∷ (codes "m-0-2") ∷ (codes "o-0-2") ∷ (codes "inflight") ∷ (codes "30050") ∷ (codes "2") ∷ (codes "1") ∷ [] ∷ digest (codes "c") ∷ []) ∷
+    ((codes "transfer") ∷ (codes "from") ∷ (codes "to") ∷ (codes "kind") ∷ (codes "due") ∷ (codes "number") ∷ (codes "message") ∷ (codes "origin") ∷ (codes "md5") ∷ []) ∷
+    ((codes "task") ∷ (codes "name") ∷ (codes "status") ∷ (codes "moved") ∷ []) ∷
+    ((codes "report") ∷ (codes "queue") ∷ (codes "sends") ∷ (codes "repeats") ∷ (codes "receives") ∷ (codes "empties") ∷ (codes "deletes") ∷ (codes "expiries") ∷ (codes "redrives") ∷ (codes "moves") ∷ (codes "arrivals") ∷ (codes "OverLimit") ∷ (codes "MessageNotInflight") ∷ (codes "ReceiptHandleIsInvalid") ∷ (codes "BadTimeout") ∷ (codes "MissingGroup") ∷ (codes "MissingDeduplication") ∷ (codes "BadDelay") ∷ (codes "TaskRunning") ∷ (codes "NoTask") ∷ (codes "depth_max") ∷ (codes "visible") ∷ (codes "in_flight") ∷ (codes "delayed") ∷ (codes "age_sum") ∷ (codes "age_max") ∷ (codes "age_p50") ∷ (codes "age_p95") ∷ (codes "age_p99") ∷ []) ∷
+    ((codes "report") ∷ (codes "q") ∷ (codes "6") ∷ (codes "0") ∷ (codes "6") ∷ (codes "0") ∷ (codes "4") ∷ (codes "0") ∷ (codes "0") ∷ (codes "0") ∷ (codes "0") ∷ (codes "0") ∷ (codes "0") ∷ (codes "0") ∷ (codes "0") ∷ (codes "0") ∷ (codes "0") ∷ (codes "0") ∷ (codes "0") ∷ (codes "0") ∷ (codes "6") ∷ (codes "0") ∷ (codes "2") ∷ (codes "0") ∷ (codes "988") ∷ (codes "345") ∷ (codes "247") ∷ (codes "345") ∷ (codes "345") ∷ []) ∷ [])
+unfolding reading_on_literals running_on_literals columns_of
+case_0_outages_one_after_another = refl
+
+-- version-3/outages_with_a_chance_of_zero.toml
+case_0_outages_with_a_chance_of_zero : shown_upto 3 39 [] (codes "# Services end at 100, 150, 200, 250, 300 and 350. In the outages, which are from 100 to 199 and from 300 to 349, none\n# fails. At the other moments each fails.\nversion = 3\nhorizon = 1000\n[[queue]]\nname = \"q\"\n[[actor]]\nname = \"c\"\nkind = \"consumer\"\nqueue = \"q\"\nstart_ms = 50\nbatch = 6\nwait_s = 20\nservice_min_ms = 50\nservice_max_ms = 50\nfail_permille = 1000\nfails_between_ms = [[100, 200], [300, 350]]\nfails_permille = 0\n[[actor]]\nname = \"s\"\nkind = \"script\"\nqueue = \"q\"\ncalls = \"\"\"\nat,call,body,group,id,delay,receipt,max,wait,timeout,task\n0,send,a,,,,,,,,\n1,send,b,,,,,,,,\n2,send,c,,,,,,,,\n3,send,a,,,,,,,,\n4,send,b,,,,,,,,\n5,send,c,,,,,,,,\n\"\"\"\n")
+    ≡ ran (((codes "at") ∷ (codes "queue") ∷ (codes "agent") ∷ (codes "call") ∷ (codes "answer") ∷ (codes "message") ∷ (codes "receipt") ∷ (codes "detail") ∷ []) ∷
+    ((codes "0") ∷ (codes "q") ∷ (codes "s") ∷ (codes "send") ∷ (codes "new") ∷ (codes "m-0-0") ∷ [] ∷ digest (codes "a") ∷ []) ∷
+    ((codes "1") ∷ (codes "q") ∷ (codes "s") ∷ (codes "send") ∷ (codes "new") ∷ (codes "m-0-1") ∷ [] ∷ digest (codes "b") ∷ []) ∷
+    ((codes "2") ∷ (codes "q") ∷ (codes "s") ∷ (codes "send") ∷ (codes "new") ∷ (codes "m-0-2") ∷ [] ∷ digest (codes "c") ∷ []) ∷
+    ((codes "3") ∷ (codes "q") ∷ (codes "s") ∷ (codes "send") ∷ (codes "new") ∷ (codes "m-0-3") ∷ [] ∷ digest (codes "a") ∷ []) ∷
+    ((codes "4") ∷ (codes "q") ∷ (codes "s") ∷ (codes "send") ∷ (codes "new") ∷ (codes "m-0-4") ∷ [] ∷ digest (codes "b") ∷ []) ∷
+    ((codes "5") ∷ (codes "q") ∷ (codes "s") ∷ (codes "send") ∷ (codes "new") ∷ (codes "m-0-5") ∷ [] ∷ digest (codes "c") ∷ []) ∷
+    ((codes "50") ∷ (codes "q") ∷ (codes "c") ∷ (codes "receive") ∷ (codes "ok") ∷ (codes "m-0-0") ∷ (codes "r-0-0-1") ∷ (codes "o-0-0") ∷ []) ∷
+    ((codes "50") ∷ (codes "q") ∷ (codes "c") ∷ (codes "receive") ∷ (codes "ok") ∷ (codes "m-0-1") ∷ (codes "r-0-1-1") ∷ (codes "o-0-1") ∷ []) ∷
+    ((codes "50") ∷ (codes "q") ∷ (codes "c") ∷ (codes "receive") ∷ (codes "ok") ∷ (codes "m-0-2") ∷ (codes "r-0-2-1") ∷ (codes "o-0-2") ∷ []) ∷
+    ((codes "50") ∷ (codes "q") ∷ (codes "c") ∷ (codes "receive") ∷ (codes "ok") ∷ (codes "m-0-3") ∷ (codes "r-0-3-1") ∷ (codes "o-0-3") ∷ []) ∷
+    ((codes "50") ∷ (codes "q") ∷ (codes "c") ∷ (codes "receive") ∷ (codes "ok") ∷ (codes "m-0-4") ∷ (codes "r-0-4-1") ∷ (codes "o-0-4") ∷ []) ∷
+    ((codes "50") ∷ (codes "q") ∷ (codes "c") ∷ (codes "receive") ∷ (codes "ok") ∷ (codes "m-0-5") ∷ (codes "r-0-5-1") ∷ (codes "o-0-5") ∷ []) ∷
+    ((codes "100") ∷ (codes "q") ∷ (codes "c") ∷ (codes "delete") ∷ (codes "deleted") ∷ (codes "m-0-0") ∷ (codes "r-0-0-1") ∷ (codes "100") ∷ []) ∷
+    ((codes "150") ∷ (codes "q") ∷ (codes "c") ∷ (codes "delete") ∷ (codes "deleted") ∷ (codes "m-0-1") ∷ (codes "r-0-1-1") ∷ (codes "149") ∷ []) ∷
+    ((codes "200") ∷ (codes "q") ∷ (codes "c") ∷ (codes "fail") ∷ (codes "ok") ∷ (codes "m-0-2") ∷ (codes "r-0-2-1") ∷ [] ∷ []) ∷
+    ((codes "250") ∷ (codes "q") ∷ (codes "c") ∷ (codes "fail") ∷ (codes "ok") ∷ (codes "m-0-3") ∷ (codes "r-0-3-1") ∷ [] ∷ []) ∷
+    ((codes "300") ∷ (codes "q") ∷ (codes "c") ∷ (codes "delete") ∷ (codes "deleted") ∷ (codes "m-0-4") ∷ (codes "r-0-4-1") ∷ (codes "296") ∷ []) ∷
+    ((codes "350") ∷ (codes "q") ∷ (codes "c") ∷ (codes "fail") ∷ (codes "ok") ∷ (codes "m-0-5") ∷ (codes "r-0-5-1") ∷ [] ∷ []) ∷
+    ((codes "351") ∷ (codes "q") ∷ (codes "c") ∷ (codes "receive") ∷ (codes "wait") ∷ [] ∷ [] ∷ [] ∷ []) ∷
+    ((codes "final") ∷ (codes "queue") ∷ (codes "message") ∷ (codes "origin") ∷ (codes "place") ∷ (codes "due") ∷ (codes "enqueued") ∷ (codes "receives") ∷ (codes "group") ∷ (codes "md5") ∷ []) ∷
+    ((codes "final") ∷ (codes "q") ∷ (codes "m-0-2") ∷ (codes "o-0-2") ∷ (codes "inflight") ∷ (codes "30050") ∷ (codes "2") ∷ (codes "1") ∷ [] ∷ digest (codes "c") ∷ []) ∷
+    ((codes "final") ∷ (codes "q") ∷ (codes "m-0-3") ∷ (codes "o-0-3") ∷ (codes "inflight") ∷ (codes "30050") ∷ (codes "3") ∷ (codes "1") ∷ [] ∷ digest (codes "a") ∷ []) ∷
+    ((codes "final") ∷ (codes "q") ∷ (codes "m-0-5") ∷ (codes "o-0-5") ∷ (codes "inflight") ∷ (codes "30050") ∷ (codes "5") ∷ (codes "1") ∷ [] ∷ digest (codes "c") ∷ []) ∷
+    ((codes "transfer") ∷ (codes "from") ∷ (codes "to") ∷ (codes "kind") ∷ (codes "due") ∷ (codes "number") ∷ (codes "message") ∷ (codes "origin") ∷ (codes "md5") ∷ []) ∷
+    ((codes "task") ∷ (codes "name") ∷ (codes "status") ∷ (codes "moved") ∷ []) ∷
+    ((codes "report") ∷ (codes "queue") ∷ (codes "sends") ∷ (codes "repeats") ∷ (codes "receives") ∷ (codes "empties") ∷ (codes "deletes") ∷ (codes "expiries") ∷ (codes "redrives") ∷ (codes "moves") ∷ (codes "arrivals") ∷ (codes "OverLimit") ∷ (codes "MessageNotInflight") ∷ (codes "ReceiptHandleIsInvalid") ∷ (codes "BadTimeout") ∷ (codes "MissingGroup") ∷ (codes "MissingDeduplication") ∷ (codes "BadDelay") ∷ (codes "TaskRunning") ∷ (codes "NoTask") ∷ (codes "depth_max") ∷ (codes "visible") ∷ (codes "in_flight") ∷ (codes "delayed") ∷ (codes "age_sum") ∷ (codes "age_max") ∷ (codes "age_p50") ∷ (codes "age_p95") ∷ (codes "age_p99") ∷ []) ∷
+    ((codes "report") ∷ (codes "q") ∷ (codes "6") ∷ (codes "0") ∷ (codes "6") ∷ (codes "0") ∷ (codes "3") ∷ (codes "0") ∷ (codes "0") ∷ (codes "0") ∷ (codes "0") ∷ (codes "0") ∷ (codes "0") ∷ (codes "0") ∷ (codes "0") ∷ (codes "0") ∷ (codes "0") ∷ (codes "0") ∷ (codes "0") ∷ (codes "0") ∷ (codes "6") ∷ (codes "0") ∷ (codes "3") ∷ (codes "0") ∷ (codes "545") ∷ (codes "296") ∷ (codes "149") ∷ (codes "296") ∷ (codes "296") ∷ []) ∷ [])
+unfolding reading_on_literals running_on_literals columns_of
+case_0_outages_with_a_chance_of_zero = refl
 
 -- version-3/poison_in_a_fifo_group.toml
 case_0_poison_in_a_fifo_group : shown_upto 3 37 [] (codes "# The poison m-0-0 is first in group g and closes it while it is in flight. So at 111 the consumer gets m-0-2 of group\n# h. m-0-0 fails again at 1110 and leaves for the dead-letter queue at 2010. That opens the group: the waiting poll gets\n# m-0-1 in the same handling.\nversion = 3\nhorizon = 3000\n[[queue]]\nname = \"q.fifo\"\nvisibility_s = 1\ndead_letter = \"d.fifo\"\nmax_receives = 2\nlatency_min_ms = 20\nlatency_max_ms = 20\n[[queue]]\nname = \"d.fifo\"\n[[actor]]\nname = \"c\"\nkind = \"consumer\"\nqueue = \"q.fifo\"\nstart_ms = 10\nwait_s = 20\nservice_min_ms = 100\nservice_max_ms = 100\nfails_on = \"bad\"\n[[actor]]\nname = \"s\"\nkind = \"script\"\nqueue = \"q.fifo\"\ncalls = \"\"\"\nat,call,body,group,id,delay,receipt,max,wait,timeout,task\n0,send,bad,g,1,,,,,,\n1,send,a,g,2,,,,,,\n2,send,b,h,3,,,,,,\n\"\"\"\n")
@@ -677,6 +1090,27 @@ case_0_service_by_quantiles : shown_upto 3 30 [] (codes "# Words of agent 1, as 
 unfolding reading_on_literals running_on_literals columns_of
 case_0_service_by_quantiles = refl
 
+-- version-3/service_of_each_message.toml
+case_0_service_of_each_message : shown_upto 3 30 [] (codes "# With batch_service = \"each\" the services are as without the key, and service_each_ms has no effect: they end at 110,\n# 210 and 310.\nversion = 3\nhorizon = 1000\n[[queue]]\nname = \"q\"\n[[actor]]\nname = \"c\"\nkind = \"consumer\"\nqueue = \"q\"\nstart_ms = 10\nbatch = 3\nwait_s = 20\nservice_min_ms = 100\nservice_max_ms = 100\nbatch_service = \"each\"\nservice_each_ms = 20\n[[actor]]\nname = \"s\"\nkind = \"script\"\nqueue = \"q\"\ncalls = \"\"\"\nat,call,body,group,id,delay,receipt,max,wait,timeout,task\n0,send,a,,,,,,,,\n1,send,b,,,,,,,,\n2,send,c,,,,,,,,\n\"\"\"\n")
+    ≡ ran (((codes "at") ∷ (codes "queue") ∷ (codes "agent") ∷ (codes "call") ∷ (codes "answer") ∷ (codes "message") ∷ (codes "receipt") ∷ (codes "detail") ∷ []) ∷
+    ((codes "0") ∷ (codes "q") ∷ (codes "s") ∷ (codes "send") ∷ (codes "new") ∷ (codes "m-0-0") ∷ [] ∷ digest (codes "a") ∷ []) ∷
+    ((codes "1") ∷ (codes "q") ∷ (codes "s") ∷ (codes "send") ∷ (codes "new") ∷ (codes "m-0-1") ∷ [] ∷ digest (codes "b") ∷ []) ∷
+    ((codes "2") ∷ (codes "q") ∷ (codes "s") ∷ (codes "send") ∷ (codes "new") ∷ (codes "m-0-2") ∷ [] ∷ digest (codes "c") ∷ []) ∷
+    ((codes "10") ∷ (codes "q") ∷ (codes "c") ∷ (codes "receive") ∷ (codes "ok") ∷ (codes "m-0-0") ∷ (codes "r-0-0-1") ∷ (codes "o-0-0") ∷ []) ∷
+    ((codes "10") ∷ (codes "q") ∷ (codes "c") ∷ (codes "receive") ∷ (codes "ok") ∷ (codes "m-0-1") ∷ (codes "r-0-1-1") ∷ (codes "o-0-1") ∷ []) ∷
+    ((codes "10") ∷ (codes "q") ∷ (codes "c") ∷ (codes "receive") ∷ (codes "ok") ∷ (codes "m-0-2") ∷ (codes "r-0-2-1") ∷ (codes "o-0-2") ∷ []) ∷
+    ((codes "110") ∷ (codes "q") ∷ (codes "c") ∷ (codes "delete") ∷ (codes "deleted") ∷ (codes "m-0-0") ∷ (codes "r-0-0-1") ∷ (codes "110") ∷ []) ∷
+    ((codes "210") ∷ (codes "q") ∷ (codes "c") ∷ (codes "delete") ∷ (codes "deleted") ∷ (codes "m-0-1") ∷ (codes "r-0-1-1") ∷ (codes "209") ∷ []) ∷
+    ((codes "310") ∷ (codes "q") ∷ (codes "c") ∷ (codes "delete") ∷ (codes "deleted") ∷ (codes "m-0-2") ∷ (codes "r-0-2-1") ∷ (codes "308") ∷ []) ∷
+    ((codes "311") ∷ (codes "q") ∷ (codes "c") ∷ (codes "receive") ∷ (codes "wait") ∷ [] ∷ [] ∷ [] ∷ []) ∷
+    ((codes "final") ∷ (codes "queue") ∷ (codes "message") ∷ (codes "origin") ∷ (codes "place") ∷ (codes "due") ∷ (codes "enqueued") ∷ (codes "receives") ∷ (codes "group") ∷ (codes "md5") ∷ []) ∷
+    ((codes "transfer") ∷ (codes "from") ∷ (codes "to") ∷ (codes "kind") ∷ (codes "due") ∷ (codes "number") ∷ (codes "message") ∷ (codes "origin") ∷ (codes "md5") ∷ []) ∷
+    ((codes "task") ∷ (codes "name") ∷ (codes "status") ∷ (codes "moved") ∷ []) ∷
+    ((codes "report") ∷ (codes "queue") ∷ (codes "sends") ∷ (codes "repeats") ∷ (codes "receives") ∷ (codes "empties") ∷ (codes "deletes") ∷ (codes "expiries") ∷ (codes "redrives") ∷ (codes "moves") ∷ (codes "arrivals") ∷ (codes "OverLimit") ∷ (codes "MessageNotInflight") ∷ (codes "ReceiptHandleIsInvalid") ∷ (codes "BadTimeout") ∷ (codes "MissingGroup") ∷ (codes "MissingDeduplication") ∷ (codes "BadDelay") ∷ (codes "TaskRunning") ∷ (codes "NoTask") ∷ (codes "depth_max") ∷ (codes "visible") ∷ (codes "in_flight") ∷ (codes "delayed") ∷ (codes "age_sum") ∷ (codes "age_max") ∷ (codes "age_p50") ∷ (codes "age_p95") ∷ (codes "age_p99") ∷ []) ∷
+    ((codes "report") ∷ (codes "q") ∷ (codes "3") ∷ (codes "0") ∷ (codes "3") ∷ (codes "0") ∷ (codes "3") ∷ (codes "0") ∷ (codes "0") ∷ (codes "0") ∷ (codes "0") ∷ (codes "0") ∷ (codes "0") ∷ (codes "0") ∷ (codes "0") ∷ (codes "0") ∷ (codes "0") ∷ (codes "0") ∷ (codes "0") ∷ (codes "0") ∷ (codes "3") ∷ (codes "0") ∷ (codes "0") ∷ (codes "0") ∷ (codes "627") ∷ (codes "308") ∷ (codes "209") ∷ (codes "308") ∷ (codes "308") ∷ []) ∷ [])
+unfolding reading_on_literals running_on_literals columns_of
+case_0_service_of_each_message = refl
+
 -- version-3/service_of_up_to_a_day.toml
 case_0_service_of_up_to_a_day : shown_upto 3 25 [] (codes "# The longest range: the first word of agent 1 is 3604955119, and 3604955119 * 86399999 / 2^32 is 72519322.5. So the\n# service takes 1 + 72519322 ms and ends at 72519333. Its numerator, with the 1000 of the permille, has 69 bits. The\n# visibility timeout of 12 hours ends at 43200010; the message is then visible, and the newest receipt still deletes.\nversion = 3\nhorizon = 72519400\n[[queue]]\nname = \"q\"\nvisibility_s = 43200\n[[actor]]\nname = \"c\"\nkind = \"consumer\"\nqueue = \"q\"\nstart_ms = 10\nwait_s = 20\nservice = [[0, 1], [1000, 86400000]]\n[[actor]]\nname = \"s\"\nkind = \"script\"\nqueue = \"q\"\ncalls = \"\"\"\nat,call,body,group,id,delay,receipt,max,wait,timeout,task\n0,send,a,,,,,,,,\n\"\"\"\n")
     ≡ ran (((codes "at") ∷ (codes "queue") ∷ (codes "agent") ∷ (codes "call") ∷ (codes "answer") ∷ (codes "message") ∷ (codes "receipt") ∷ (codes "detail") ∷ []) ∷
@@ -746,6 +1180,27 @@ case_0_stop_of_a_producer : shown_upto 3 25 [] (codes "# o stops at 250, between
     ((codes "report") ∷ (codes "q") ∷ (codes "5") ∷ (codes "0") ∷ (codes "0") ∷ (codes "0") ∷ (codes "0") ∷ (codes "0") ∷ (codes "0") ∷ (codes "0") ∷ (codes "0") ∷ (codes "0") ∷ (codes "0") ∷ (codes "0") ∷ (codes "0") ∷ (codes "0") ∷ (codes "0") ∷ (codes "0") ∷ (codes "0") ∷ (codes "0") ∷ (codes "5") ∷ (codes "5") ∷ (codes "0") ∷ (codes "0") ∷ (codes "0") ∷ [] ∷ [] ∷ [] ∷ [] ∷ []) ∷ [])
 unfolding reading_on_literals running_on_literals columns_of
 case_0_stop_of_a_producer = refl
+
+-- version-3/stop_while_a_batch_is_decided.toml
+case_0_stop_while_a_batch_is_decided : shown_upto 3 29 [] (codes "# The service of the batch ends at 110. Its messages are decided and settled until 112, beyond the stop at 111. Then\n# nothing is asked.\nversion = 3\nhorizon = 1000\n[[queue]]\nname = \"q\"\n[[actor]]\nname = \"c\"\nkind = \"consumer\"\nqueue = \"q\"\nstart_ms = 10\nbatch = 3\nwait_s = 20\nservice_min_ms = 100\nservice_max_ms = 100\nstop_ms = 111\nbatch_service = \"once\"\nfails_on = \"bad\"\n[[actor]]\nname = \"s\"\nkind = \"script\"\nqueue = \"q\"\ncalls = \"\"\"\nat,call,body,group,id,delay,receipt,max,wait,timeout,task\n0,send,a,,,,,,,,\n1,send,bad,,,,,,,,\n2,send,c,,,,,,,,\n\"\"\"\n")
+    ≡ ran (((codes "at") ∷ (codes "queue") ∷ (codes "agent") ∷ (codes "call") ∷ (codes "answer") ∷ (codes "message") ∷ (codes "receipt") ∷ (codes "detail") ∷ []) ∷
+    ((codes "0") ∷ (codes "q") ∷ (codes "s") ∷ (codes "send") ∷ (codes "new") ∷ (codes "m-0-0") ∷ [] ∷ digest (codes "a") ∷ []) ∷
+    ((codes "1") ∷ (codes "q") ∷ (codes "s") ∷ (codes "send") ∷ (codes "new") ∷ (codes "m-0-1") ∷ [] ∷ digest (codes "bad") ∷ []) ∷
+    ((codes "2") ∷ (codes "q") ∷ (codes "s") ∷ (codes "send") ∷ (codes "new") ∷ (codes "m-0-2") ∷ [] ∷ digest (codes "c") ∷ []) ∷
+    ((codes "10") ∷ (codes "q") ∷ (codes "c") ∷ (codes "receive") ∷ (codes "ok") ∷ (codes "m-0-0") ∷ (codes "r-0-0-1") ∷ (codes "o-0-0") ∷ []) ∷
+    ((codes "10") ∷ (codes "q") ∷ (codes "c") ∷ (codes "receive") ∷ (codes "ok") ∷ (codes "m-0-1") ∷ (codes "r-0-1-1") ∷ (codes "o-0-1") ∷ []) ∷
+    ((codes "10") ∷ (codes "q") ∷ (codes "c") ∷ (codes "receive") ∷ (codes "ok") ∷ (codes "m-0-2") ∷ (codes "r-0-2-1") ∷ (codes "o-0-2") ∷ []) ∷
+    ((codes "110") ∷ (codes "q") ∷ (codes "c") ∷ (codes "delete") ∷ (codes "deleted") ∷ (codes "m-0-0") ∷ (codes "r-0-0-1") ∷ (codes "110") ∷ []) ∷
+    ((codes "111") ∷ (codes "q") ∷ (codes "c") ∷ (codes "fail") ∷ (codes "ok") ∷ (codes "m-0-1") ∷ (codes "r-0-1-1") ∷ [] ∷ []) ∷
+    ((codes "112") ∷ (codes "q") ∷ (codes "c") ∷ (codes "delete") ∷ (codes "deleted") ∷ (codes "m-0-2") ∷ (codes "r-0-2-1") ∷ (codes "110") ∷ []) ∷
+    ((codes "final") ∷ (codes "queue") ∷ (codes "message") ∷ (codes "origin") ∷ (codes "place") ∷ (codes "due") ∷ (codes "enqueued") ∷ (codes "receives") ∷ (codes "group") ∷ (codes "md5") ∷ []) ∷
+    ((codes "final") ∷ (codes "q") ∷ (codes "m-0-1") ∷ (codes "o-0-1") ∷ (codes "inflight") ∷ (codes "30010") ∷ (codes "1") ∷ (codes "1") ∷ [] ∷ digest (codes "bad") ∷ []) ∷
+    ((codes "transfer") ∷ (codes "from") ∷ (codes "to") ∷ (codes "kind") ∷ (codes "due") ∷ (codes "number") ∷ (codes "message") ∷ (codes "origin") ∷ (codes "md5") ∷ []) ∷
+    ((codes "task") ∷ (codes "name") ∷ (codes "status") ∷ (codes "moved") ∷ []) ∷
+    ((codes "report") ∷ (codes "queue") ∷ (codes "sends") ∷ (codes "repeats") ∷ (codes "receives") ∷ (codes "empties") ∷ (codes "deletes") ∷ (codes "expiries") ∷ (codes "redrives") ∷ (codes "moves") ∷ (codes "arrivals") ∷ (codes "OverLimit") ∷ (codes "MessageNotInflight") ∷ (codes "ReceiptHandleIsInvalid") ∷ (codes "BadTimeout") ∷ (codes "MissingGroup") ∷ (codes "MissingDeduplication") ∷ (codes "BadDelay") ∷ (codes "TaskRunning") ∷ (codes "NoTask") ∷ (codes "depth_max") ∷ (codes "visible") ∷ (codes "in_flight") ∷ (codes "delayed") ∷ (codes "age_sum") ∷ (codes "age_max") ∷ (codes "age_p50") ∷ (codes "age_p95") ∷ (codes "age_p99") ∷ []) ∷
+    ((codes "report") ∷ (codes "q") ∷ (codes "3") ∷ (codes "0") ∷ (codes "3") ∷ (codes "0") ∷ (codes "2") ∷ (codes "0") ∷ (codes "0") ∷ (codes "0") ∷ (codes "0") ∷ (codes "0") ∷ (codes "0") ∷ (codes "0") ∷ (codes "0") ∷ (codes "0") ∷ (codes "0") ∷ (codes "0") ∷ (codes "0") ∷ (codes "0") ∷ (codes "3") ∷ (codes "0") ∷ (codes "1") ∷ (codes "0") ∷ (codes "220") ∷ (codes "110") ∷ (codes "110") ∷ (codes "110") ∷ (codes "110") ∷ []) ∷ [])
+unfolding reading_on_literals running_on_literals columns_of
+case_0_stop_while_a_batch_is_decided = refl
 
 -- version-3/stop_while_a_batch_is_settled.toml
 case_0_stop_while_a_batch_is_settled : shown_upto 3 29 [] (codes "# The batch ends well at 310 and is deleted until 312, beyond the stop at 311. Then nothing is asked.\nversion = 3\nhorizon = 1000\n[[queue]]\nname = \"q\"\n[[actor]]\nname = \"c\"\nkind = \"consumer\"\nqueue = \"q\"\nstart_ms = 10\nbatch = 3\nservice_min_ms = 100\nservice_max_ms = 100\nstop_ms = 311\nbatch_fails = \"whole\"\n[[actor]]\nname = \"s\"\nkind = \"script\"\nqueue = \"q\"\ncalls = \"\"\"\nat,call,body,group,id,delay,receipt,max,wait,timeout,task\n0,send,a,,,,,,,,\n1,send,b,,,,,,,,\n2,send,c,,,,,,,,\n\"\"\"\n")

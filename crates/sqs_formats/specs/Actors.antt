@@ -8,6 +8,7 @@ use Rattle.sim_clock.specs.declared.refusal.Refusal.TheVariants.{OutOfRange, Bad
 use Rattle.sqs_message.specs.declared.calls.ScriptCall.{ScriptCall}
 use Rattle.sqs_formats.specs.declared.actor_kind.ActorKind.{ActorKind}
 use Rattle.sqs_formats.specs.declared.actor_kind.ActorKind.TheVariants as kinds
+use Rattle.sqs_formats.specs.declared.failing.Failing.{Failing}
 use Rattle.sqs_formats.specs.declared.faults.ScenarioFault.{ScenarioFault}
 use Rattle.sqs_formats.specs.declared.faults.ScriptFault.{ScriptFault}
 use Rattle.sqs_formats.specs.declared.home.Home.{Home}
@@ -18,7 +19,8 @@ use Rattle.sqs_model.specs.declared.agents.Forwarding.{Forwarding}
 use Rattle.sqs_model.specs.declared.agents.Groups.{Groups}
 use Rattle.sqs_model.specs.declared.agents.Role.{Role}
 use Rattle.sqs_model.specs.declared.agents.Role.TheVariants.{Script, Producer, Consumer}
-use Rattle.sqs_model.specs.declared.agents.Stretch.{Stretch}
+use Rattle.sqs_model.specs.declared.agents.Serving.{Serving}
+use Rattle.sqs_model.specs.declared.agents.Serving.TheVariants.{Each, Once}
 use Rattle.sqs_formats.specs.Reading.{needs, ◌>>=◌}
 use Rattle.sqs_formats.specs.Keys.{Says, Table, KeyType, fault_at, place_of, has, has_newer, only, text, sized_text, boolean, integer, seconds, one_of, required, optional, maybe}
 use Rattle.sqs_formats.specs.Lists.{integers}
@@ -26,6 +28,7 @@ use Rattle.sqs_formats.specs.Distributions.{time, time_keys}
 use Rattle.sqs_formats.specs.Groups.{groups, groups_key}
 use Rattle.sqs_formats.specs.Names.{is_agent_name, is_script_name}
 use Rattle.sqs_formats.specs.Copies.{copy_names}
+use Rattle.sqs_formats.specs.Outages.{outage_keys, outages}
 use Rattle.sqs_formats.specs.Outline.{Outline, actor_place, first_task, is_fresh, name_of, queue_named, kin_named, kind_at, queue_text}
 use Rattle.sqs_formats.specs.Queues.{latency_keys, latency}
 use Rattle.sqs_formats.specs.Script.{script}
@@ -198,12 +201,24 @@ service_keys by_quantiles = time_keys by_quantiles (codes "service") (codes "ser
 -- the keys that consumers have from version 3 on
 abbrev pub newer_consumer_keys : ℕ → List (List ℕ)
 newer_consumer_keys version =
-    if nat_le 3 version then codes "stop_ms" ∷ codes "fails_on" ∷ codes "fails_from_ms" ∷ codes "batch_fails" ∷ codes "backoff_s" ∷ codes "heartbeat_s" ∷ codes "copies" ∷ [] else []
+    if nat_le 3 version then codes "gather_ms" ∷ codes "stop_ms" ∷ codes "batch_service" ∷ codes "fails_on" ∷ codes "batch_fails" ∷ codes "backoff_s" ∷ codes "copies" ∷ [] else []
 
--- the end of an outage goes with its begin
-abbrev pub outage_keys : Bool → List (List ℕ)
-outage_keys true = codes "fails_to_ms" ∷ []
-outage_keys false = []
+-- a time for each message goes with what one service is of; only a consumer that does not say it may have heartbeats
+abbrev pub serving_keys : ℕ → Bool → List (List ℕ)
+serving_keys version true = codes "service_each_ms" ∷ []
+serving_keys version false = if nat_le 3 version then codes "heartbeat_s" ∷ [] else []
+
+-- a jitter goes with its backoff
+abbrev pub jitter_keys : Bool → List (List ℕ)
+jitter_keys true = codes "backoff_jitter" ∷ []
+jitter_keys false = []
+
+-- the keys that go with others from version 3 on
+abbrev pub following_keys : ℕ → Table → List (List ℕ)
+following_keys version t =
+    serving_keys version (has_newer version t (codes "batch_service"))
+    ++ (outage_keys (has_newer version t (codes "fails_between_ms")) (has_newer version t (codes "fails_from_ms"))
+    ++ jitter_keys (has_newer version t (codes "backoff_s")))
 
 -- all keys of a consumer
 abbrev pub all_consumer_keys : ℕ → Table → List (List ℕ)
@@ -212,29 +227,42 @@ all_consumer_keys version t =
     ++ (consumer_keys
     ++ (service_keys (has_newer version t (codes "service"))
     ++ (forward_keys version (has t (codes "forward"))
-    ++ (newer_consumer_keys version ++ outage_keys (has_newer version t (codes "fails_from_ms"))))))
+    ++ (newer_consumer_keys version ++ following_keys version t))))
 
--- when each service that ends fails, if there is such a time
-unfoldable pub outage : Bool → Table → Says (Option Stretch)
-outage false t = Ok None
-outage true t = do
-  from ← required (integer 0 2592000000) t (codes "fails_from_ms")
-  to ← required (integer from 2592000000) t (codes "fails_to_ms")
-  Ok (Some (record { from = from; to = to }))
+-- whether one service is of a whole batch
+abbrev pub servings_named : List (List ℕ × Bool)
+servings_named = (codes "each", false) ∷ (codes "once", true) ∷ []
+
+-- services of each message, or of a batch, with a time for each message
+abbrev pub serving_of : Bool → ℕ → Serving
+serving_of false each = Each
+serving_of true each = Once each
+
+-- what one service is of
+unfoldable pub serving : Table → Says Serving
+serving t = do
+  once ← optional false (one_of servings_named) t (codes "batch_service")
+  each ← optional 0 (integer 0 86400000) t (codes "service_each_ms")
+  Ok (serving_of once each)
 
 -- whether a failed service fails its batch as a whole
 abbrev pub failures_named : List (List ℕ × Bool)
 failures_named = (codes "each", false) ∷ (codes "whole", true) ∷ []
 
--- which services fail, and what follows: the text, the outage, whether the whole batch fails, the backoff, the heartbeat
-unfoldable pub failing : Table → Says (Option (List ℕ) × Option Stretch × Bool × List ℕ × Option ℕ)
+-- whether a timeout of the backoff is drawn
+abbrev pub jitters_named : List (List ℕ × Bool)
+jitters_named = (codes "none", false) ∷ (codes "full", true) ∷ []
+
+-- which services fail, and what follows
+unfoldable pub failing : Table → Says Failing
 failing t = do
   fails_on ← maybe (sized_text 1 128) t (codes "fails_on")
-  outage ← outage (has t (codes "fails_from_ms")) t
+  outages ← outages t
   whole ← optional false (one_of failures_named) t (codes "batch_fails")
   backoff ← optional [] (integers 1 12 0 43200) t (codes "backoff_s")
+  jitter ← optional false (one_of jitters_named) t (codes "backoff_jitter")
   heartbeat ← maybe (seconds 1 43200) t (codes "heartbeat_s")
-  Ok (fails_on, outage, whole, backoff, heartbeat)
+  Ok (record { fails_on = fails_on; outages = outages; whole = whole; backoff = backoff; jitter = jitter; heartbeat = heartbeat })
 
 -- an actor that receives, serves and deletes
 abbrev pub consuming : Outline → ℕ → Table → Says Role
@@ -242,9 +270,11 @@ consuming o home t = do
   known ← only (all_consumer_keys o.version t) t
   start ← optional 0 (integer 0 2592000000) t (codes "start_ms")
   batch ← optional 1 (integer 1 10) t (codes "batch")
+  gather ← optional 0 (integer 0 300000) t (codes "gather_ms")
   wait ← optional 0 (integer 0 20) t (codes "wait_s")
   timeout ← maybe (integer 0 43200) t (codes "timeout_s")
   service ← service t
+  serving ← serving t
   fail_permille ← optional 0 (integer 0 1000) t (codes "fail_permille")
   idle ← optional 1000 (integer 1 86400000) t (codes "idle_ms")
   forward ← forward (has t (codes "forward")) o home t
@@ -253,18 +283,21 @@ consuming o home t = do
   Ok (Consumer (record {
     start = start;
     batch = batch;
+    gather = gather;
     wait = wait;
     timeout = timeout;
     service = service;
+    serving = serving;
     fail_permille = fail_permille;
     idle = idle;
     forward = forward;
     stop = stop;
-    fails_on = fails.0;
-    outage = fails.1;
-    whole = fails.2;
-    backoff = fails.3;
-    heartbeat = fails.4;
+    fails_on = fails.fails_on;
+    outages = fails.outages;
+    whole = fails.whole;
+    backoff = fails.backoff;
+    jitter = fails.jitter;
+    heartbeat = fails.heartbeat;
   }))
 
 -- the kinds of actors, by their names

@@ -8,6 +8,7 @@ pub mod Outline
 pub mod Queues
 pub mod Script
 pub mod Groups
+pub mod Outages
 pub mod Actors
 pub mod Tasks
 pub mod Scenario

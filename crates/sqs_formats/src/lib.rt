@@ -4,11 +4,13 @@
 #![tactic(auto)]
 
 mod actor_kind;
+mod failing;
 mod faults;
 mod home;
 mod laws;
 
 pub use actor_kind::ActorKind;
+pub use failing::Failing;
 pub use faults::{ScenarioFault, ScriptFault};
 pub use home::{Home, HomeTask, HomeTasks};
 pub use laws::{lines_join, versions_stay};

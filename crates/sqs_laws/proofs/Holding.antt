@@ -14,7 +14,9 @@ use Rattle.sqs_model.specs.declared.agents.Forwarding.{Forwarding}
 use Rattle.sqs_model.specs.declared.agents.ProducerSettings.{ProducerSettings}
 use Rattle.sqs_model.specs.declared.agents.Role.{Role}
 use Rattle.sqs_model.specs.declared.agents.Role.TheVariants.{Consumer, Producer, Script}
-use Rattle.sqs_model.specs.Actor.{Actor, Asked, Beat, Ended, Failed, LastAct, Served, act_of, after_failure, consumer_got, consumer_told, consumer_wake, ends_drawn, ends_service, ends_well, fails, goes_on, woken, has_come, has_failed, next, next_as, producer_sent, producer_wake, rests, script_wake, served_all, serves, serving, settles}
+use Rattle.sqs_model.specs.declared.agents.Serving.{Serving}
+use Rattle.sqs_model.specs.declared.agents.Serving.TheVariants.{Each, Once}
+use Rattle.sqs_model.specs.Actor.{Actor, Asked, Beat, Ended, Failed, Gathered, LastAct, Served, act_of, after_failure, at_stake, begins_next, consumer_told, consumer_wake, ends_drawn, ends_service, ends_well, ends_whole, failing_at, fails, gathers_on, goes_on, got_more, is_gathered, is_gathering, woken, has_come, has_failed, next, next_as, producer_sent, producer_wake, rests, script_wake, served_all, serves, serves_on, serving, settles}
 use Rattle.sqs_model.specs.Draw.{Draws, drawn_chance}
 use Rattle.sqs_model.proofs.Branches.{either}
 use Rattle.sqs_laws.proofs.Giving.{AreKnown, IsKnown}
@@ -80,10 +82,14 @@ module _ (site arrivals : ℕ) where
     all_acts a c [] h k = idles a h
     all_acts a c (g ∷ gs) h k = settles_acts a c g gs h k.0 k.1
 
-    well_acts : (whole : Bool) (a : Actor) (c : ConsumerSettings) (g : Got) (gs : List Got) → IsInformed a → IsKnown site arrivals g → Acts (ends_well whole a c now g gs)
-    well_acts false a c g gs h k = serves_acts (record a { last_act = Served g.receipt }) g c.forward (with_lists _ h.held h.done h.failed) k
-    well_acts true a c g [] h k = all_acts a c (a.done ++ g ∷ []) h (known_append a.done (g ∷ []) h.done (k, tt))
-    well_acts true a c g (x ∷ xs) h k = record { informed = with_lists _ h.held (known_append a.done (g ∷ []) h.done (k, tt)) h.failed; serves = (k.here, k.old) }
+    whole_acts : (serving : Serving) (a : Actor) (c : ConsumerSettings) (g : Got) (gs : List Got) → IsInformed a → IsKnown site arrivals g → AreKnown site arrivals gs → Acts (ends_whole serving a c now g gs)
+    whole_acts Each a c g [] h k l = all_acts a c (a.done ++ g ∷ []) h (known_append a.done (g ∷ []) h.done (k, tt))
+    whole_acts Each a c g (x ∷ xs) h k l = record { informed = with_lists _ h.held (known_append a.done (g ∷ []) h.done (k, tt)) h.failed; serves = (k.here, k.old) }
+    whole_acts (Once each) a c g gs h k l = settles_acts (record a { held = [] }) c g gs (with_lists _ tt h.done h.failed) k l
+
+    well_acts : (whole : Bool) (a : Actor) (c : ConsumerSettings) (g : Got) (gs : List Got) → IsInformed a → IsKnown site arrivals g → AreKnown site arrivals gs → Acts (ends_well whole a c now g gs)
+    well_acts false a c g gs h k l = serves_acts (record a { last_act = Served g.receipt }) g c.forward (with_lists _ h.held h.done h.failed) k
+    well_acts true a c g gs h k l = whole_acts c.serving a c g gs h k l
 
     failure_informed : (timeouts : List ℕ) (whole : Bool) (c : ConsumerSettings) (a : Actor) (g : Got) → c.whole ≡ whole → IsInformed a → IsKnown site arrivals g → IsInformed (record (after_failure timeouts c a g) { last_act = Failed })
     failure_informed [] false c a g e h k = rw e (with_lists _ h.held h.done h.failed)
@@ -93,29 +99,43 @@ module _ (site arrivals : ℕ) where
 
     ends_acts : (a : Actor) (c : ConsumerSettings) (g : Got) (failed : Bool) → IsInformed a → IsKnown site arrivals g → Acts (ends_service a c now g failed)
     ends_acts a c g true h k = record { informed = failure_informed c.backoff c.whole c a g refl h k; serves = (k.here, k.old) }
-    ends_acts a c g false h k = well_acts c.whole a c g a.held h k
+    ends_acts a c g false h k = well_acts c.whole a c g a.held h k h.held
 
     drawn_acts : (a : Actor) (c : ConsumerSettings) (g : Got) (x : Bool × Draws) → IsInformed a → IsKnown site arrivals g → Acts (ends_drawn a c now g x)
-    drawn_acts a c g (by_chance, draws) h k = ends_acts (record a { draws = draws }) c g (fails c now g by_chance) (with_lists _ h.held h.done h.failed) k
+    drawn_acts a c g (by_chance, draws) h k = ends_acts (record a { draws = draws }) c g (fails c (at_stake c.serving c.whole g a.held) by_chance) (with_lists _ h.held h.done h.failed) k
 
     rests_acts : (a : Actor) (c : ConsumerSettings) (failed done : List Got) → IsInformed a → AreKnown site arrivals failed → AreKnown site arrivals done → Acts (rests a c now failed done)
     rests_acts a c (g ∷ gs) done h f d = record { informed = with_lists _ h.held h.done f.1; serves = tt }
     rests_acts a c [] (g ∷ gs) h f d = settles_acts a c g gs h d.0 d.1
     rests_acts a c [] [] h f d = either Acts (has_come c.stop now) _ _ (idles a h) (record { informed = with_lists _ h.held h.done h.failed; serves = tt })
 
+    serves_on_acts : (a : Actor) (c : ConsumerSettings) (g : Got) (gs : List Got) → IsInformed a → AreKnown site arrivals (g ∷ gs) → Acts (serves_on a c now g gs)
+    serves_on_acts a c g gs h k =
+        either Acts (goes_on c.heartbeat a.ends now) _ _ (record { informed = with_lists _ h.held h.done h.failed; serves = tt })
+        (drawn_acts (record a { held = gs }) c g (drawn_chance (failing_at c.outages c.fail_permille now) a.draws) (with_lists _ k.1 h.done h.failed) k.0)
+
+    gathers_acts : (a : Actor) (c : ConsumerSettings) (after : ℕ) → IsInformed a → Acts (acts.Nothing, gathers_on a c now after)
+    gathers_acts a c after h =
+        either (λ (b : Actor). Acts (acts.Nothing, b)) (is_gathered a c now after) _ _ (record { informed = with_lists _ h.held h.done h.failed; serves = tt })
+        (record { informed = with_lists _ h.held h.done h.failed; serves = tt })
+
     wake_acts : (a : Actor) (c : ConsumerSettings) (gs : List Got) → IsInformed a → AreKnown site arrivals gs → Acts (consumer_wake a c now gs)
     wake_acts a c [] h k = rests_acts a c a.failed a.done h h.failed h.done
-    wake_acts a c (g ∷ gs) h k =
-        either Acts (goes_on c.heartbeat a.ends now) _ _ (record { informed = with_lists _ h.held h.done h.failed; serves = tt })
-        (drawn_acts (record a { held = gs }) c g (drawn_chance c.fail_permille a.draws) (with_lists _ k.1 h.done h.failed) k.0)
+    wake_acts a c (g ∷ gs) h k = either Acts (is_gathering a.last_act) _ _ (record { informed = h; serves = tt }) (serves_on_acts a c g gs h k)
+
+    next_one_acts : (s : Serving) (a : Actor) (c : ConsumerSettings) (gs : List Got) → IsInformed a → AreKnown site arrivals gs → Acts (acts.Nothing, begins_next s (record a { held = gs }) c now)
+    next_one_acts Each a c gs h k = record { informed = with_lists _ k h.done h.failed; serves = tt }
+    next_one_acts (Once each) a c gs h k = record { informed = with_lists _ k h.done h.failed; serves = tt }
 
     serving_acts : (a : Actor) (c : ConsumerSettings) (gs : List Got) → IsInformed a → AreKnown site arrivals gs → Acts (acts.Nothing, serving a c now gs)
     serving_acts a c [] h k = record { informed = with_lists _ tt h.done h.failed; serves = tt }
-    serving_acts a c (g ∷ gs) h k = record { informed = with_lists _ k h.done h.failed; serves = tt }
+    serving_acts a c (g ∷ gs) h k = next_one_acts c.serving a c (g ∷ gs) h k
 
-    got_acts : (a : Actor) (c : ConsumerSettings) (gs : List Got) → IsInformed a → AreKnown site arrivals gs → Acts (consumer_got a c now gs)
-    got_acts a c [] h k = record { informed = with_lists _ h.held h.done h.failed; serves = tt }
-    got_acts a c (g ∷ gs) h k = serving_acts (record a { done = []; failed = [] }) c (g ∷ gs) (with_lists _ h.held tt tt) k
+    got_acts : (held : List Got) (a : Actor) (c : ConsumerSettings) (gs : List Got) → AreKnown site arrivals held → IsInformed a → AreKnown site arrivals gs → Acts (got_more held a c now gs)
+    got_acts [] a c [] l h k = record { informed = with_lists _ h.held h.done h.failed; serves = tt }
+    got_acts [] a c (g ∷ gs) l h k = gathers_acts (record a { held = g ∷ gs; done = []; failed = []; ends = now + c.gather }) c 0 (with_lists _ k tt tt)
+    got_acts (x ∷ xs) a c [] l h k = gathers_acts a c c.idle h
+    got_acts (x ∷ xs) a c (g ∷ gs) l h k = gathers_acts (record a { held = x ∷ xs ++ g ∷ gs }) c 0 (with_lists _ (known_append (x ∷ xs) (g ∷ gs) l k) h.done h.failed)
 
     failed_acts : (a : Actor) (c : ConsumerSettings) (gs : List Got) → IsInformed a → AreKnown site arrivals gs → Acts (has_failed a c now gs)
     failed_acts a c [] h k = serving_acts a c a.held h h.held
@@ -123,6 +143,7 @@ module _ (site arrivals : ℕ) where
 
     told_acts : (a : Actor) (c : ConsumerSettings) (last : LastAct) → IsInformed a → Acts (consumer_told a c now last)
     told_acts a c Asked h = record { informed = with_lists _ h.held h.done h.failed; serves = tt }
+    told_acts a c Gathered h = gathers_acts a c c.idle h
     told_acts a c (Served receipt) h = record { informed = with_lists _ h.held h.done h.failed; serves = tt }
     told_acts a c Ended h = serving_acts a c a.held h h.held
     told_acts a c Failed h = failed_acts a c a.failed h h.failed
@@ -135,7 +156,7 @@ module _ (site arrivals : ℕ) where
     as_acts (Producer p) a told_by.Other h k = sent_acts a p h
     as_acts (Producer p) a w h k = idles a h
     as_acts (Consumer c) a told_by.Wake h k = wake_acts (woken a) c a.held (with_lists _ h.held h.done h.failed) h.held
-    as_acts (Consumer c) a (told_by.Got gots) h k = got_acts a c gots h k
+    as_acts (Consumer c) a (told_by.Got gots) h k = got_acts a.held a c gots h.held h k
     as_acts (Consumer c) a told_by.Waiting h k = idles a h
     as_acts (Consumer c) a told_by.Other h k = told_acts a c a.last_act h
 

@@ -1,5 +1,5 @@
 -- What an actor does next leaves it sound, makes it wake later or as before, and sends only what arrives later.
-use Rattle.std.specs.Prelude.{List, None, Option, Some, [], drop, max, nat_lt, suc, zero, ℕ, ◌+◌, ◌<◌, ◌∷◌, ◌≡◌, ◌≤◌, ◌⊎◌}
+use Rattle.std.specs.Prelude.{List, None, Option, Some, [], drop, length, max, min, nat_lt, suc, zero, ℕ, ◌++◌, ◌+◌, ◌<◌, ◌∷◌, ◌≡◌, ◌≤◌, ◌⊎◌}
 use Rattle.std.proofs.Common.{add-one, ap, arith, inl, inr, refl, subst, sym, ◌∙◌}
 use Rattle.sqs_message.specs.declared.calls.ScriptCall.{ScriptCall}
 use Rattle.sqs_model.specs.declared.acts.Act.{Act}
@@ -12,9 +12,11 @@ use Rattle.sqs_model.specs.declared.agents.Forwarding.{Forwarding}
 use Rattle.sqs_model.specs.declared.agents.ProducerSettings.{ProducerSettings}
 use Rattle.sqs_model.specs.declared.agents.Role.{Role}
 use Rattle.sqs_model.specs.declared.agents.Role.TheVariants.{Consumer, Producer, Script}
+use Rattle.sqs_model.specs.declared.agents.Serving.{Serving}
+use Rattle.sqs_model.specs.declared.agents.Serving.TheVariants.{Each, Once}
 use Rattle.sqs_redrive.specs.declared.answers.Got.{Got}
 use Rattle.sqs_redrive.specs.declared.transfers.Outbound.{Outbound}
-use Rattle.sqs_model.specs.Actor.{Actor, Asked, Beat, Ended, Failed, Served, LastAct, consumer_got, consumer_told, consumer_wake, first_at, has_come, has_failed, idle, in_service, next, next_as, next_beat, producer_sent, producer_wake, script_wake, serving, wakes_after, woken}
+use Rattle.sqs_model.specs.Actor.{Actor, Asked, Beat, Ended, Failed, Gathered, Served, LastAct, asks_again, begins_first, begins_next, consumer_told, consumer_wake, first_at, gathers_on, got_more, has_come, has_failed, idle, in_service, is_gathered, next, next_as, next_beat, producer_sent, producer_wake, script_wake, service_of, serving, wakes_after, woken}
 use Rattle.sqs_model.specs.Draw.{Draws, drawn_time}
 use Rattle.sqs_model.specs.Progress.{Ascends, IsSoundActor, IsSoundDistribution, IsSoundForward, IsSoundRole, WakesFor}
 use Rattle.sqs_model.proofs.Counts.{ascends_lower}
@@ -153,20 +155,36 @@ module _ (now : ℕ) (w : Weight now) where
       let past : w.of (wake_key (max (now + 1) (next_beat c.heartbeat now b.ends)) b) ≡ 0 = w.past (wake_key (max (now + 1) (next_beat c.heartbeat now b.ends)) b) (omega arith) in
       record { number = n; settings = s; wakes = tt; wake = omega arith; sends = tt }
 
+  next_one_steps : (s : Serving) (c : ConsumerSettings) (a : Actor) (gs : List Got) → Steps now w 0 (Consumer c) a (acts.Nothing, begins_next s (record a { held = gs }) c now)
+  next_one_steps Each c a gs =
+      let drawn : ℕ × Draws = drawn_time c.service a.draws in
+      in_service_steps c a (record a { held = gs; ends = now + drawn.0; draws = drawn.1 }) refl refl
+  next_one_steps (Once each) c a gs = in_service_steps c a (record a { held = gs; ends = now }) refl refl
+
   serving_steps : (c : ConsumerSettings) (a : Actor) (gs : List Got) → Steps now w 0 (Consumer c) a (acts.Nothing, serving a c now gs)
   serving_steps c a [] = record { number = refl; settings = refl; wakes = tt; wake = late_wake (actor_weight w a) 1 a (omega arith); sends = tt }
-  serving_steps c a (g ∷ gs) =
-      let drawn : ℕ × Draws = drawn_time c.service a.draws in
-      in_service_steps c a (record a { held = g ∷ gs; ends = now + drawn.0; draws = drawn.1 }) refl refl
+  serving_steps c a (g ∷ gs) = next_one_steps c.serving c a (g ∷ gs)
 
   idle_steps : (c : ConsumerSettings) (a : Actor) → 1 ≤ c.idle → Steps now w 0 (Consumer c) a (idle a c now)
   idle_steps c a h = record { number = refl; settings = refl; wakes = tt; wake = late_wake (actor_weight w a) c.idle a h; sends = tt }
 
-  consumer_got_steps : (c : ConsumerSettings) (a : Actor) (gs : List Got) → IsSoundRole (Consumer c) → Steps now w 0 (Consumer c) a (consumer_got a c now gs)
-  consumer_got_steps c a [] s = idle_steps c a s.1
-  consumer_got_steps c a (g ∷ gs) s =
-      let drawn : ℕ × Draws = drawn_time c.service a.draws in
-      in_service_steps c a (record a { held = g ∷ gs; done = []; failed = []; ends = now + drawn.0; draws = drawn.1 }) refl refl
+  first_steps : (c : ConsumerSettings) (a b : Actor) → b.number ≡ a.number → b.settings ≡ a.settings → Steps now w 0 (Consumer c) a (acts.Nothing, begins_first b c now)
+  first_steps c a b n s =
+      let drawn : ℕ × Draws = service_of c.serving (length b.held) (drawn_time c.service b.draws) in
+      in_service_steps c a (record b { ends = now + drawn.0; draws = drawn.1 }) n s
+
+  gathers_steps : (c : ConsumerSettings) (a b : Actor) (after : ℕ) → b.number ≡ a.number → b.settings ≡ a.settings → Steps now w 0 (Consumer c) a (acts.Nothing, gathers_on b c now after)
+  gathers_steps c a b after n s =
+      let past : w.of (wake_key (asks_again b now after) b) ≡ 0 = w.past (wake_key (asks_again b now after) b) (omega arith) in
+      either (λ (x : Actor). Steps now w 0 (Consumer c) a (acts.Nothing, x)) (is_gathered b c now after) _ _
+      (first_steps c a (record b { last_act = Ended }) n s)
+      (record { number = n; settings = s; wakes = tt; wake = omega arith; sends = tt })
+
+  consumer_got_steps : (c : ConsumerSettings) (a : Actor) (held gs : List Got) → IsSoundRole (Consumer c) → Steps now w 0 (Consumer c) a (got_more held a c now gs)
+  consumer_got_steps c a [] [] s = idle_steps c a s.1
+  consumer_got_steps c a [] (g ∷ gs) s = gathers_steps c a (record a { held = g ∷ gs; done = []; failed = []; ends = now + c.gather }) 0 refl refl
+  consumer_got_steps c a (h ∷ hs) [] s = gathers_steps c a a c.idle refl refl
+  consumer_got_steps c a (h ∷ hs) (g ∷ gs) s = gathers_steps c a (record a { held = h ∷ hs ++ g ∷ gs }) 0 refl refl
 
   failed_steps : (c : ConsumerSettings) (a : Actor) (gs : List Got) → Steps now w 0 (Consumer c) a (has_failed a c now gs)
   failed_steps c a [] = serving_steps c a a.held
@@ -174,6 +192,7 @@ module _ (now : ℕ) (w : Weight now) where
 
   consumer_told_steps : (c : ConsumerSettings) (a : Actor) (last_act : LastAct) → IsSoundRole (Consumer c) → Steps now w 0 (Consumer c) a (consumer_told a c now last_act)
   consumer_told_steps c a Asked s = idle_steps c a s.1
+  consumer_told_steps c a Gathered s = gathers_steps c a a c.idle refl refl
   consumer_told_steps c a (Served receipt) s = record { number = refl; settings = refl; wakes = tt; wake = omega arith; sends = tt }
   consumer_told_steps c a Ended s = serving_steps c a a.held
   consumer_told_steps c a Failed s = failed_steps c a a.failed
@@ -189,7 +208,7 @@ module _ (now : ℕ) (w : Weight now) where
   role_steps gone (Producer p) a told_by.Waiting s k g = rw g (same_steps (Producer p) a k)
   role_steps gone (Producer p) a told_by.Other s k g = rw g (producer_sent_steps p a s)
   role_steps gone (Consumer c) a told_by.Wake s k g = consumer_wake_steps gone c a a.held s.2 g
-  role_steps gone (Consumer c) a (told_by.Got gots) s k g = rw g (consumer_got_steps c a gots s)
+  role_steps gone (Consumer c) a (told_by.Got gots) s k g = rw g (consumer_got_steps c a a.held gots s)
   role_steps gone (Consumer c) a told_by.Waiting s k g = rw g (same_steps (Consumer c) a k)
   role_steps gone (Consumer c) a told_by.Other s k g = rw g (consumer_told_steps c a a.last_act s)
 

@@ -6,12 +6,14 @@ use Rattle.sqs_model.specs.declared.acts.Act.TheVariants as acts
 use Rattle.sqs_model.specs.declared.agents.ActorSettings.{ActorSettings}
 use Rattle.sqs_model.specs.declared.agents.ConsumerSettings.{ConsumerSettings}
 use Rattle.sqs_model.specs.declared.agents.Forwarding.{Forwarding}
+use Rattle.sqs_model.specs.declared.agents.Serving.{Serving}
+use Rattle.sqs_model.specs.declared.agents.Serving.TheVariants.{Each, Once}
 use Rattle.sqs_redrive.specs.declared.answers.Got.{Got}
 use Rattle.sqs_redrive.specs.declared.transfers.Outbound.{Outbound}
-use Rattle.sqs_model.specs.Actor.{Actor, Asked, Beat, Ended, Failed, LastAct, Served, after_failure, consumer_wake, ends_drawn, ends_service, ends_well, fails, goes_on, has_come, rests, served_all, serves, settles}
+use Rattle.sqs_model.specs.Actor.{Actor, Asked, Beat, Ended, Failed, LastAct, Served, after_failure, at_stake, backoff_at, backoff_drawn, consumer_wake, ends_drawn, ends_service, ends_well, ends_whole, failing_at, fails, goes_on, has_come, is_gathering, rests, served_all, serves, serves_on, settles}
 use Rattle.sqs_model.specs.Draw.{Draws, drawn_chance, drawn_latency}
 use Rattle.sqs_model.proofs.Branches.{either}
-use Rattle.sqs_model.proofs.Effects.{latency_least, latency_words}
+use Rattle.sqs_model.proofs.Effects.{backoff_words, latency_least, latency_words}
 use Rattle.sqs_model.proofs.Sending.{IsForward, Sends}
 
 -- an actor that keeps its number, its settings, its wake and its counts but for transfers and words, which are no fewer
@@ -39,7 +41,7 @@ MayForwardBy now b (Some f) (Some o) = IsForwardBy now b f o
 
 -- how a consumer with a wait and a forward may ask for messages and end a service when it wakes
 abbrev pub IsServiceAct : ℕ → Actor → ℕ → Option Forwarding → Act → Type 0
-IsServiceAct now b wait f (acts.Receive most waits timeout) = waits ≡ wait
+IsServiceAct now b wait f (acts.Receive most waits timeout) = waits ≤ wait
 IsServiceAct now b wait f (acts.Serve id receipt failed forward) = MayForwardBy now b f forward
 IsServiceAct now b wait f act = Unit {0}
 
@@ -98,10 +100,14 @@ module _ (now : ℕ) (b : Actor) where
     all_woke d [] s = record { stays = s; act = tt }
     all_woke d (g ∷ gs) s = settles_woke d g gs s
 
+    whole_woke : (serving : Serving) (d : Actor) (g : Got) (gs : List Got) → Stays b d → Wakes (ends_whole serving d c now g gs)
+    whole_woke Each d g [] s = all_woke d (d.done ++ g ∷ []) s
+    whole_woke Each d g (h ∷ hs) s = record { stays = held_stays d d.held (d.done ++ g ∷ []) d.failed d.ends Ended s; act = tt }
+    whole_woke (Once each) d g gs s = settles_woke (record d { held = [] }) g gs (held_stays d [] d.done d.failed d.ends d.last_act s)
+
     well_woke : (whole : Bool) (d : Actor) (g : Got) (gs : List Got) → Stays b d → Wakes (ends_well whole d c now g gs)
     well_woke false d g gs s = serves_woke c.wait _ g c.forward (held_stays d d.held d.done d.failed d.ends (Served g.receipt) s)
-    well_woke true d g [] s = all_woke d (d.done ++ g ∷ []) s
-    well_woke true d g (h ∷ hs) s = record { stays = held_stays d d.held (d.done ++ g ∷ []) d.failed d.ends Ended s; act = tt }
+    well_woke true d g gs s = whole_woke c.serving d g gs s
 
     failed_stays : (timeouts : List ℕ) (whole : Bool) (d : Actor) (g : Got) → c.whole ≡ whole → Stays b d → Stays b (record (after_failure timeouts c d g) { last_act = Failed })
     failed_stays [] false d g e s = rw e (held_stays d d.held d.done d.failed d.ends Failed s)
@@ -113,24 +119,30 @@ module _ (now : ℕ) (b : Actor) where
     ends_woke d g true s = record { stays = failed_stays c.backoff c.whole d g refl s; act = tt }
     ends_woke d g false s = well_woke c.whole d g d.held s
 
-    drawn_woke : (d : Actor) (g : Got) → Stays b d → Wakes (ends_drawn d c now g (drawn_chance c.fail_permille d.draws))
+    drawn_woke : (d : Actor) (g : Got) → Stays b d → Wakes (ends_drawn d c now g (drawn_chance (failing_at c.outages c.fail_permille now) d.draws))
     drawn_woke d g s =
-        let drawn : Bool × Draws = drawn_chance c.fail_permille d.draws in
-        ends_woke (record d { draws = drawn.1 }) g (fails c now g drawn.0) (drawn_stays d drawn.1 (omega arith) s)
+        let drawn : Bool × Draws = drawn_chance (failing_at c.outages c.fail_permille now) d.draws in
+        ends_woke (record d { draws = drawn.1 }) g (fails c (at_stake c.serving c.whole g d.held) drawn.0) (drawn_stays d drawn.1 (omega arith) s)
 
     rests_woke : (d : Actor) (failed done : List Got) → Stays b d → Wakes (rests d c now failed done)
-    rests_woke d (g ∷ gs) done s = record { stays = held_stays d d.held d.done gs d.ends Ended s; act = tt }
+    rests_woke d (g ∷ gs) done s =
+        let drawn : ℕ × Draws = backoff_drawn c.jitter (backoff_at c.backoff g.receipt.count) d.draws in
+        let words : d.draws.taken ≤ drawn.1.taken = backoff_words c.jitter (backoff_at c.backoff g.receipt.count) d.draws in
+        record { stays = held_stays (record d { draws = drawn.1 }) d.held d.done gs d.ends Ended (drawn_stays d drawn.1 words s); act = tt }
     rests_woke d [] (g ∷ gs) s = settles_woke d g gs s
     rests_woke d [] [] s =
         either Wakes (has_come c.stop now) _ _ (record { stays = s; act = tt })
-        (record { stays = held_stays d d.held d.done d.failed d.ends Asked s; act = refl })
+        (record { stays = held_stays d d.held d.done d.failed d.ends Asked s; act = omega arith })
 
-    woke_from : (d : Actor) (gs : List Got) → Stays b d → Wakes (consumer_wake d c now gs)
-    woke_from d [] s = rests_woke d d.failed d.done s
-    woke_from d (g ∷ gs) s =
+    serves_on_woke : (d : Actor) (g : Got) (gs : List Got) → Stays b d → Wakes (serves_on d c now g gs)
+    serves_on_woke d g gs s =
         either Wakes (goes_on c.heartbeat d.ends now) _ _
         (record { stays = held_stays d d.held d.done d.failed d.ends Beat s; act = tt })
         (drawn_woke (record d { held = gs }) g (held_stays d gs d.done d.failed d.ends d.last_act s))
+
+    woke_from : (d : Actor) (gs : List Got) → Stays b d → Wakes (consumer_wake d c now gs)
+    woke_from d [] s = rests_woke d d.failed d.done s
+    woke_from d (g ∷ gs) s = either Wakes (is_gathering d.last_act) _ _ (record { stays = s; act = omega arith }) (serves_on_woke d g gs s)
 
     pub consumer_woke : (gs : List Got) → Wakes (consumer_wake b c now gs)
     consumer_woke gs =

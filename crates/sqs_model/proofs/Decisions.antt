@@ -1,5 +1,5 @@
 -- What an actor decides: it keeps its number and settings, its counts only grow, and it sends at most the forward of its role.
-use Rattle.std.specs.Prelude.{List, None, Option, Some, [], drop, nat_lt, ℕ, ◌∷◌, ◌≡◌, ◌≤◌}
+use Rattle.std.specs.Prelude.{List, None, Option, Some, [], drop, length, nat_lt, ℕ, ◌++◌, ◌+◌, ◌∷◌, ◌≡◌, ◌≤◌}
 use Rattle.std.proofs.Common.{arith, refl, subst, sym}
 use Rattle.sqs_message.specs.declared.calls.ScriptCall.{ScriptCall}
 use Rattle.sqs_redrive.specs.declared.answers.Got.{Got}
@@ -13,11 +13,13 @@ use Rattle.sqs_model.specs.declared.agents.Forwarding.{Forwarding}
 use Rattle.sqs_model.specs.declared.agents.ProducerSettings.{ProducerSettings}
 use Rattle.sqs_model.specs.declared.agents.Role.{Role}
 use Rattle.sqs_model.specs.declared.agents.Role.TheVariants.{Consumer, Producer, Script}
-use Rattle.sqs_model.specs.Actor.{Actor, Asked, Beat, Ended, Failed, Served, LastAct, consumer_got, consumer_told, consumer_wake, has_come, has_failed, next, next_as, producer_sent, producer_wake, script_wake, serving, wakes_after, woken}
+use Rattle.sqs_model.specs.declared.agents.Serving.{Serving}
+use Rattle.sqs_model.specs.declared.agents.Serving.TheVariants.{Each, Once}
+use Rattle.sqs_model.specs.Actor.{Actor, Asked, Beat, Ended, Failed, Gathered, Served, LastAct, backoff_at, begins_next, consumer_told, consumer_wake, gathers_on, got_more, has_come, has_failed, is_gathered, next, next_as, producer_sent, producer_wake, script_wake, serving, wakes_after, woken}
 use Rattle.sqs_model.specs.Draw.{drawn_time}
 use Rattle.sqs_model.proofs.Branches.{either}
 use Rattle.sqs_model.proofs.ConsumerWakes.{IsForwardBy, MayForwardBy, consumer_woke, service_sends}
-use Rattle.sqs_model.proofs.Effects.{group_words, time_words}
+use Rattle.sqs_model.proofs.Effects.{backoff_words, group_words, service_words, time_words}
 use Rattle.sqs_model.proofs.Sending.{Sends, call_sends}
 
 -- where an actor of a role forwards to
@@ -74,22 +76,35 @@ module _ (now : ℕ) (a : Actor) where
           sends = service_sends now (woken a) c.wait (MayForwardBy now a c.forward) tt c.forward _ same_forward x.act;
         }
 
+    next_one_decides : (s : Serving) (gs : List Got) → Decides now a c.forward (acts.Nothing, begins_next s (record a { held = gs }) c now)
+    next_one_decides Each gs = rests c.forward _ refl refl refl (omega arith) refl (omega (arith, time_words c.service a.draws)) _ tt
+    next_one_decides (Once each) gs = rests c.forward _ refl refl refl (omega arith) refl (omega arith) _ tt
+
     serving_decides : (gs : List Got) → Decides now a c.forward (acts.Nothing, serving a c now gs)
     serving_decides [] = rests c.forward _ refl refl refl (omega arith) refl (omega arith) _ tt
-    serving_decides (g ∷ gs) = rests c.forward _ refl refl refl (omega arith) refl (omega (arith, time_words c.service a.draws)) _ tt
+    serving_decides (g ∷ gs) = next_one_decides c.serving (g ∷ gs)
 
-    got_decides : (gs : List Got) → Decides now a c.forward (consumer_got a c now gs)
-    got_decides [] = rests c.forward _ refl refl refl (omega arith) refl (omega arith) _ tt
-    got_decides (g ∷ gs) = rests c.forward _ refl refl refl (omega arith) refl (omega (arith, time_words c.service a.draws)) _ tt
+    gathers_decides : (held done failed : List Got) (ends after : ℕ) → Decides now a c.forward (acts.Nothing, gathers_on (record a { held = held; done = done; failed = failed; ends = ends }) c now after)
+    gathers_decides held done failed ends after =
+        either (λ b. Decides now a c.forward (acts.Nothing, b)) (is_gathered (record a { held = held; done = done; failed = failed; ends = ends }) c now after) _ _
+        (rests c.forward _ refl refl refl (omega arith) refl (omega (arith, service_words c.serving (length held) c.service a.draws)) _ tt)
+        (rests c.forward _ refl refl refl (omega arith) refl (omega arith) _ tt)
+
+    got_decides : (held gs : List Got) → Decides now a c.forward (got_more held a c now gs)
+    got_decides [] [] = rests c.forward _ refl refl refl (omega arith) refl (omega arith) _ tt
+    got_decides [] (g ∷ gs) = gathers_decides (g ∷ gs) [] [] (now + c.gather) 0
+    got_decides (h ∷ hs) [] = gathers_decides a.held a.done a.failed a.ends c.idle
+    got_decides (h ∷ hs) (g ∷ gs) = gathers_decides (h ∷ hs ++ g ∷ gs) a.done a.failed a.ends 0
 
     failed_decides : (gs : List Got) → Decides now a c.forward (has_failed a c now gs)
     failed_decides [] = serving_decides a.held
-    failed_decides (g ∷ gs) = rests c.forward _ refl refl refl (omega arith) refl (omega arith) _ tt
+    failed_decides (g ∷ gs) = rests c.forward _ refl refl refl (omega arith) refl (backoff_words c.jitter (backoff_at c.backoff g.receipt.count) a.draws) _ tt
 
     told_decides : (s : LastAct) → Decides now a c.forward (consumer_told a c now s)
     told_decides Ended = serving_decides a.held
     told_decides Failed = failed_decides a.failed
     told_decides Asked = rests c.forward _ refl refl refl (omega arith) refl (omega arith) _ tt
+    told_decides Gathered = gathers_decides a.held a.done a.failed a.ends c.idle
     told_decides (Served r) = rests c.forward _ refl refl refl (omega arith) refl (omega arith) _ tt
     told_decides Beat = rests c.forward _ refl refl refl (omega arith) refl (omega arith) _ tt
 
@@ -100,7 +115,7 @@ module _ (now : ℕ) (a : Actor) where
   as_decides (Producer p) told_by.Other = sent_decides p
   as_decides (Producer p) w = none None
   as_decides (Consumer c) told_by.Wake = woke_decides c a.held
-  as_decides (Consumer c) (told_by.Got gots) = got_decides c gots
+  as_decides (Consumer c) (told_by.Got gots) = got_decides c a.held gots
   as_decides (Consumer c) told_by.Waiting = none c.forward
   as_decides (Consumer c) told_by.Other = told_decides c a.last_act
 

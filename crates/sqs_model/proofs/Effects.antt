@@ -1,5 +1,5 @@
 -- What happens at a sound site leaves it sound, makes nothing due by the present, and sends only what arrives later.
-use Rattle.std.specs.Prelude.{All, List, None, Option, Some, [], nat_lt, ℕ, ◌*◌, ◌+◌, ◌<◌, ◌^◌, ◌∷◌, ◌≡◌, ◌≤◌}
+use Rattle.std.specs.Prelude.{All, Bool, List, None, Option, Some, [], false, nat_lt, true, ℕ, ◌*◌, ◌+◌, ◌<◌, ◌^◌, ◌∷◌, ◌≡◌, ◌≤◌}
 use Rattle.std.proofs.Common.{arith, refl, sym}
 use Rattle.std.proofs.lemmas.Bool.{eqb-true}
 use Rattle.std.proofs.lemmas.List.Elements.{All-append, All-cons, All-head, All-nil, All-tail}
@@ -14,7 +14,9 @@ use Rattle.sqs_model.specs.declared.agents.Distribution.TheVariants.{Quantiles, 
 use Rattle.sqs_model.specs.declared.agents.Groups.{Groups}
 use Rattle.sqs_model.specs.declared.agents.Groups.TheVariants.{ByWeight, InTurn}
 use Rattle.sqs_model.specs.declared.agents.Quantile.{Quantile}
-use Rattle.sqs_model.specs.Actor.{Actor, group_of}
+use Rattle.sqs_model.specs.declared.agents.Serving.{Serving}
+use Rattle.sqs_model.specs.declared.agents.Serving.TheVariants.{Each, Once}
+use Rattle.sqs_model.specs.Actor.{Actor, backoff_drawn, group_of, service_of}
 use Rattle.sqs_model.specs.Acts.{came_back, redrive_by}
 use Rattle.sqs_model.specs.Draw.{Draws, drawn_latency, drawn_time, drawn_uniform, next_word, time_at, time_between}
 use Rattle.sqs_model.specs.Progress.{IsSound, IsSoundActor, IsSoundDistribution, IsSoundPolicy, TakesTime}
@@ -54,6 +56,16 @@ time_least (Quantiles qs) d h = time_some qs (next_word d) h
 pub time_words : (x : Distribution) (d : Draws) → (drawn_time x d).1.taken ≡ d.taken + 1
 time_words (Uniform low high) d = refl
 time_words (Quantiles qs) d = refl
+
+-- so does a service, of however many messages
+pub service_words : (s : Serving) (messages : ℕ) (x : Distribution) (d : Draws) → (service_of s messages (drawn_time x d)).1.taken ≡ d.taken + 1
+service_words Each messages x d = time_words x d
+service_words (Once each) messages x d = time_words x d
+
+-- a timeout that is drawn takes a word, one that is not takes none
+pub backoff_words : (jitter : Bool) (greatest : ℕ) (d : Draws) → d.taken ≤ (backoff_drawn jitter greatest d).1.taken
+backoff_words false greatest d = omega arith
+backoff_words true greatest d = omega arith
 
 -- a group in turn takes no word, one by weight takes one
 pub group_words : (groups : Option Groups) (n : ℕ) (d : Draws) → d.taken ≤ (group_of groups n d).1.taken

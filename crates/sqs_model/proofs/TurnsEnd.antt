@@ -27,7 +27,7 @@ use Rattle.sqs_redrive.specs.declared.settings.Kind.TheVariants.{Fifo, Standard}
 use Rattle.sqs_redrive.specs.declared.settings.Policy.{Policy}
 use Rattle.sqs_redrive.specs.declared.transfers.Load.{Load}
 use Rattle.sqs_redrive.specs.declared.transfers.Outbound.{Outbound}
-use Rattle.sqs_model.specs.Actor.{Actor, Asked, Beat, Ended, Failed, Served, LastAct, act_of, consumer_got, consumer_told, consumer_wake, has_come, has_failed, next, next_as, producer_wake, script_wake, woken}
+use Rattle.sqs_model.specs.Actor.{Actor, Asked, Beat, Ended, Failed, Gathered, Served, LastAct, act_of, backoff_at, backoff_drawn, consumer_told, consumer_wake, got_more, has_come, has_failed, next, next_as, producer_wake, script_wake, woken}
 use Rattle.std.specs.List.{list_any}
 use Rattle.sim_clock.specs.declared.refusal.Refusal.TheVariants as refusals
 use Rattle.sqs_message.specs.declared.row.RowAnswer.TheVariants as answers
@@ -243,13 +243,16 @@ producer_over more p now x (told_by.Got gots) h = tt
 producer_over more p now x told_by.Waiting h = tt
 producer_over more p now x told_by.Other h = either (λ (y : Act × Actor). IsOverAfter more y) (nat_lt x.wakes p.count) _ _ tt tt
 
-got_over : (more : Actor → Answer → Type 0) (c : ConsumerSettings) (now : ℕ) (x : Actor) (gots : List Got) → IsOverAfter more (consumer_got x c now gots)
-got_over more c now x [] = tt
-got_over more c now x (g ∷ gs) = tt
+got_over : (more : Actor → Answer → Type 0) (c : ConsumerSettings) (now : ℕ) (x : Actor) (held gots : List Got) → IsOverAfter more (got_more held x c now gots)
+got_over more c now x [] [] = tt
+got_over more c now x [] (g ∷ gs) = tt
+got_over more c now x (h ∷ hs) [] = tt
+got_over more c now x (h ∷ hs) (g ∷ gs) = tt
 
 -- whether a consumer has nothing to delete
 abbrev IsIdle : LastAct → Type 0
 IsIdle Asked = Unit {0}
+IsIdle Gathered = Unit {0}
 IsIdle (Served r) = ⊥
 IsIdle Ended = Unit {0}
 IsIdle Failed = ⊥
@@ -257,6 +260,7 @@ IsIdle Beat = Unit {0}
 
 idle_over : (more : Actor → Answer → Type 0) (c : ConsumerSettings) (now : ℕ) (x : Actor) (s : LastAct) → IsIdle s → IsOverAfter more (consumer_told x c now s)
 idle_over more c now x Asked h = tt
+idle_over more c now x Gathered h = tt
 idle_over more c now x (Served r) h = absurd h
 idle_over more c now x Ended h = tt
 idle_over more c now x Failed h = absurd h
@@ -264,7 +268,7 @@ idle_over more c now x Beat h = tt
 
 consumer_over : (more : Actor → Answer → Type 0) (c : ConsumerSettings) (now : ℕ) (x : Actor) (w : Answer) → IsIdle x.last_act → IsAnswer w → IsOverAfter more (next_as (Consumer c) x now w)
 consumer_over more c now x told_by.Wake i h = absurd h
-consumer_over more c now x (told_by.Got gots) i h = got_over more c now x gots
+consumer_over more c now x (told_by.Got gots) i h = got_over more c now x x.held gots
 consumer_over more c now x told_by.Waiting i h = tt
 consumer_over more c now x told_by.Other i h = idle_over more c now x x.last_act i
 
@@ -277,11 +281,13 @@ over_by k now x w r e h = subst (λ q. IsOverAfter (IsOver k now) (next_as q x n
 failed_over : (k now : ℕ) (c : ConsumerSettings) (x : Actor) (gs : List Got) → x.settings.role ≡ Consumer c → IsOverAfter (IsOver (suc k) now) (has_failed x c now gs)
 failed_over k now c x [] e = tt
 failed_over k now c x (g ∷ gs) e =
-    λ y w h l. over_by k now y w (Consumer c) (role_left (record x { failed = gs; last_act = Ended }) y l ∙ e)
-    (consumer_over (IsOver k now) c now y w (subst IsIdle (sym (stage_left (record x { failed = gs; last_act = Ended }) y l)) tt) h)
+    let drawn : ℕ × Draws = backoff_drawn c.jitter (backoff_at c.backoff g.receipt.count) x.draws in
+    let after : Actor = record x { failed = gs; last_act = Ended; draws = drawn.1 } in
+    λ y w h l. over_by k now y w (Consumer c) (role_left after y l ∙ e) (consumer_over (IsOver k now) c now y w (subst IsIdle (sym (stage_left after y l)) tt) h)
 
 told_over : (k now : ℕ) (c : ConsumerSettings) (x : Actor) (s : LastAct) → x.settings.role ≡ Consumer c → IsOverAfter (IsOver (suc k) now) (consumer_told x c now s)
 told_over k now c x Asked e = tt
+told_over k now c x Gathered e = tt
 told_over k now c x (Served r) e =
     λ y w h l. over_by k now y w (Consumer c) (role_left (record x { last_act = Ended }) y l ∙ e) (consumer_over (IsOver k now) c now y w (subst IsIdle (sym (stage_left (record x { last_act = Ended }) y l)) tt) h)
 told_over k now c x Ended e = tt
@@ -290,7 +296,7 @@ told_over k now c x Beat e = tt
 
 answer_over : (k now : ℕ) (c : ConsumerSettings) (x : Actor) (w : Answer) → x.settings.role ≡ Consumer c → IsAnswer w → IsOver (suc (suc k)) now x w
 answer_over k now c x told_by.Wake e h = absurd h
-answer_over k now c x (told_by.Got gots) e h = over_by (suc k) now x (told_by.Got gots) (Consumer c) e (got_over (IsOver (suc k) now) c now x gots)
+answer_over k now c x (told_by.Got gots) e h = over_by (suc k) now x (told_by.Got gots) (Consumer c) e (got_over (IsOver (suc k) now) c now x x.held gots)
 answer_over k now c x told_by.Waiting e h = over_by (suc k) now x told_by.Waiting (Consumer c) e tt
 answer_over k now c x told_by.Other e h = over_by (suc k) now x told_by.Other (Consumer c) e (told_over k now c x x.last_act e)
 

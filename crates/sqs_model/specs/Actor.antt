@@ -1,6 +1,7 @@
 -- Scripts, producers and consumers: what an actor does next, and when it wakes.
 use Rattle.std.specs.Fmt.{decimal}
-use Rattle.std.specs.Prelude.{Bool, List, None, Option, Some, [], drop, false, get_or, if◌then◌else◌, length, max, min, nat_le, nat_lt, take, true, ℕ, ◌%◌, ◌&&◌, ◌++◌, ◌+◌, ◌-◌, ◌||◌, ◌∷◌}
+use Rattle.std.specs.List.{list_any}
+use Rattle.std.specs.Prelude.{Bool, List, None, Option, Some, [], drop, false, get_or, if◌then◌else◌, length, max, min, nat_le, nat_lt, take, true, ℕ, ◌%◌, ◌&&◌, ◌*◌, ◌++◌, ◌+◌, ◌-◌, ◌/◌, ◌||◌, ◌∷◌}
 use Rattle.sqs_message.specs.Bodies.{contains, filled}
 use Rattle.sqs_message.specs.declared.calls.Call.{Call}
 use Rattle.sqs_message.specs.declared.calls.ScriptCall.{ScriptCall}
@@ -14,29 +15,33 @@ use Rattle.sqs_model.specs.declared.agents.Groups.{Groups}
 use Rattle.sqs_model.specs.declared.agents.Groups.TheVariants.{ByWeight, InTurn}
 use Rattle.sqs_model.specs.declared.agents.ProducerSettings.{ProducerSettings}
 use Rattle.sqs_model.specs.declared.agents.Role.{Role}
+use Rattle.sqs_model.specs.declared.agents.Outage.{Outage}
+use Rattle.sqs_model.specs.declared.agents.Serving.{Serving}
+use Rattle.sqs_model.specs.declared.agents.Serving.TheVariants.{Each, Once}
 use Rattle.sqs_model.specs.declared.agents.Stretch.{Stretch}
 use Rattle.sqs_model.specs.declared.agents.Role.TheVariants.{Consumer, Producer, Script}
 use Rattle.sqs_redrive.specs.declared.answers.Got.{Got}
 use Rattle.sqs_redrive.specs.declared.transfers.Outbound.{Outbound}
 use Rattle.sqs_message.specs.Ids.{receipt_text}
-use Rattle.sqs_model.specs.Draw.{Draws, drawn_chance, drawn_group, drawn_latency, drawn_time}
+use Rattle.sqs_model.specs.Draw.{Draws, drawn_chance, drawn_group, drawn_latency, drawn_time, drawn_uniform}
 use Rattle.sqs_model.specs.declared.acts.Act.TheVariants as acts
 use Rattle.sqs_message.specs.declared.calls.Call.TheVariants as calls
 use Rattle.sqs_redrive.specs.declared.transfers.Load.TheVariants as loads
 use Rattle.sqs_model.specs.declared.acts.Answer.TheVariants as told_by
 
--- what a consumer did last: it asked for messages, served one, ended a service or did what follows one, failed to serve
--- one, or set a visibility timeout anew while it serves
+-- what a consumer did last: it asked for messages, asked for more while it holds some, served one, ended a service or did
+-- what follows one, failed to serve one, or set a visibility timeout anew while it serves
 pub data LastAct : Type 0 where
   Asked : LastAct
+  Gathered : LastAct
   Served : Receipt → LastAct
   Ended : LastAct
   Failed : LastAct
   Beat : LastAct
 
 -- an actor: the messages that it holds and has not served; those that it served and will delete when all of their
--- receive are served; those whose timeouts it will change since a service failed; when the service ends; its numbers of
--- wakes, waiting polls and transfers; its draws
+-- receive are served; those whose timeouts it will change since a service failed; when the service ends, or before it the
+-- time to gather messages; its numbers of wakes, waiting polls and transfers; its draws
 pub record Actor : Type 0 where
   pub number : ℕ
   pub settings : ActorSettings
@@ -125,10 +130,24 @@ in_service a c now = record a { wake = Some (max (now + 1) (next_beat c.heartbea
 abbrev pub begins : Actor → ConsumerSettings → ℕ → ℕ × Draws → Actor
 begins a c now (time, draws) = in_service (record a { ends = now + time; draws = draws }) c now
 
--- a consumer that serves the first of the messages that it holds; without any it wakes 1 ms later
+-- one that goes on with the next message of a receive: its service begins, or it was served with those before it
+abbrev pub begins_next : Serving → Actor → ConsumerSettings → ℕ → Actor
+begins_next Each a c now = begins a c now (drawn_time c.service a.draws)
+begins_next (Once each) a c now = in_service (record a { ends = now }) c now
+
+-- a consumer that serves the next of the messages that it holds; without any it wakes 1 ms later
 abbrev pub serving : Actor → ConsumerSettings → ℕ → List Got → Actor
 serving a c now [] = record a { held = []; wake = Some (now + 1) }
-serving a c now (g ∷ gs) = begins (record a { held = g ∷ gs }) c now (drawn_time c.service a.draws)
+serving a c now (g ∷ gs) = begins_next c.serving (record a { held = g ∷ gs }) c now
+
+-- how long a service takes of so many messages, by the time that was drawn
+abbrev pub service_of : Serving → ℕ → ℕ × Draws → ℕ × Draws
+service_of Each messages drawn = drawn
+service_of (Once each) messages (time, draws) = (time + messages * each, draws)
+
+-- a consumer that got messages, and begins to serve
+abbrev pub begins_first : Actor → ConsumerSettings → ℕ → Actor
+begins_first a c now = begins a c now (service_of c.serving (length a.held) (drawn_time c.service a.draws))
 
 -- a consumer that rests
 abbrev pub idle : Actor → ConsumerSettings → ℕ → Act × Actor
@@ -154,10 +173,14 @@ abbrev pub is_poison : Option (List ℕ) → List ℕ → Bool
 is_poison None body = false
 is_poison (Some part) body = contains part body
 
--- whether a dependency is down
-abbrev pub is_down : Option Stretch → ℕ → Bool
-is_down None now = false
-is_down (Some outage) now = nat_le outage.from now && nat_lt now outage.to
+-- whether a moment is in a stretch of time, whose end is not in it
+abbrev pub is_in : Stretch → ℕ → Bool
+is_in s now = nat_le s.from now && nat_lt now s.to
+
+-- of a thousand services that end at a moment, how many fail: as the first outage says that it is in, else as at any other
+abbrev pub failing_at : List Outage → ℕ → ℕ → ℕ
+failing_at [] otherwise now = otherwise
+failing_at (o ∷ os) otherwise now = if is_in o.stretch now then o.permille else failing_at os otherwise now
 
 -- a consumer that does nothing more of a failed service; if its receives fail as a whole, it lets all of this one go
 abbrev pub lets_go : Bool → Actor → Actor
@@ -191,24 +214,36 @@ abbrev pub served_all : Actor → ConsumerSettings → ℕ → List Got → Act 
 served_all a c now [] = (acts.Nothing, a)
 served_all a c now (g ∷ gs) = settles a c now g gs
 
+-- the end of a service that ended well, of a receive that ends as a whole: of one message after another, or of all
+abbrev pub ends_whole : Serving → Actor → ConsumerSettings → ℕ → Got → List Got → Act × Actor
+ends_whole Each a c now g [] = served_all a c now (a.done ++ g ∷ [])
+ends_whole Each a c now g (h ∷ hs) = served_one a g
+ends_whole (Once each) a c now g gs = settles (record a { held = [] }) c now g gs
+
 -- the end of a service that ended well, of a consumer whose receives end well as a whole or not
 abbrev pub ends_well : Bool → Actor → ConsumerSettings → ℕ → Got → List Got → Act × Actor
 ends_well false a c now g gs = serves (record a { last_act = Served g.receipt }) now g c.forward
-ends_well true a c now g [] = served_all a c now (a.done ++ g ∷ [])
-ends_well true a c now g (h ∷ hs) = served_one a g
+ends_well true a c now g gs = ends_whole c.serving a c now g gs
 
 -- the end of the service of the first message held, which fails or not
 abbrev pub ends_service : Actor → ConsumerSettings → ℕ → Got → Bool → Act × Actor
 ends_service a c now g true = fails_service a c g
 ends_service a c now g false = ends_well c.whole a c now g a.held
 
--- whether a service fails: by chance, by its message, or since a dependency is down
-abbrev pub fails : ConsumerSettings → ℕ → Got → Bool → Bool
-fails c now g by_chance = by_chance || is_poison c.fails_on g.body || is_down c.outage now
+-- the messages that fail together: the first of those held, or all if they are served at once and end as a whole
+abbrev pub at_stake : Serving → Bool → Got → List Got → List Got
+at_stake Each whole g gs = g ∷ []
+at_stake (Once each) false g gs = g ∷ []
+at_stake (Once each) true g gs = g ∷ gs
+
+-- whether a service of some messages fails: by chance, or by one of them
+abbrev pub fails : ConsumerSettings → List Got → Bool → Bool
+fails c gs by_chance = by_chance || list_any (λ g. is_poison c.fails_on g.body) gs
 
 -- the end of the service of the first message held, after a draw
 abbrev pub ends_drawn : Actor → ConsumerSettings → ℕ → Got → Bool × Draws → Act × Actor
-ends_drawn a c now g (by_chance, draws) = ends_service (record a { draws = draws }) c now g (fails c now g by_chance)
+ends_drawn a c now g (by_chance, draws) =
+    ends_service (record a { draws = draws }) c now g (fails c (at_stake c.serving c.whole g a.held) by_chance)
 
 -- whether a service goes on, of a consumer that has a heartbeat
 abbrev pub goes_on : Option ℕ → ℕ → ℕ → Bool
@@ -219,10 +254,19 @@ goes_on (Some every) ends now = nat_lt now ends
 abbrev pub backoff_at : List ℕ → ℕ → ℕ
 backoff_at timeouts count = get_or timeouts (min count (length timeouts) - 1) 0
 
+-- the timeout of a message by the greatest that it may have: drawn from 0 to it, or itself
+abbrev pub backoff_drawn : Bool → ℕ → Draws → ℕ × Draws
+backoff_drawn true greatest draws = drawn_uniform 0 greatest draws
+backoff_drawn false greatest draws = (greatest, draws)
+
+-- a message of a failed service gets this visibility timeout; those of its receive that wait for theirs stay
+abbrev pub changes : Actor → Got → List Got → ℕ × Draws → Act × Actor
+changes a g gs (timeout, draws) =
+    (acts.Change (receipt_text g.receipt) timeout, record a { failed = gs; last_act = Ended; draws = draws })
+
 -- the first of the messages of a failed service gets another visibility timeout
 abbrev pub backs_off : Actor → ConsumerSettings → Got → List Got → Act × Actor
-backs_off a c g gs =
-    (acts.Change (receipt_text g.receipt) (backoff_at c.backoff g.receipt.count), record a { failed = gs; last_act = Ended })
+backs_off a c g gs = changes a g gs (backoff_drawn c.jitter (backoff_at c.backoff g.receipt.count) a.draws)
 
 -- a consumer that holds nothing to serve changes a timeout, deletes a message, or asks for messages until it stops
 abbrev pub rests : Actor → ConsumerSettings → ℕ → List Got → List Got → Act × Actor
@@ -235,17 +279,46 @@ rests a c now [] [] =
 abbrev pub serves_on : Actor → ConsumerSettings → ℕ → Got → List Got → Act × Actor
 serves_on a c now g gs =
     if goes_on c.heartbeat a.ends now then (acts.Prolong (receipt_text g.receipt) c.timeout, record a { last_act = Beat })
-    else ends_drawn (record a { held = gs }) c now g (drawn_chance c.fail_permille a.draws)
+    else ends_drawn (record a { held = gs }) c now g (drawn_chance (failing_at c.outages c.fail_permille now) a.draws)
+
+-- when a consumer that gathers messages would ask again, after a while: no later than at the end of its time to gather
+abbrev pub asks_again : Actor → ℕ → ℕ → ℕ
+asks_again a now after = max (now + 1) (min a.ends (now + after))
+
+-- whether it gathers no more: it holds a whole batch, its time is over, or it stops before it would ask again
+abbrev pub is_gathered : Actor → ConsumerSettings → ℕ → ℕ → Bool
+is_gathered a c now after = nat_le c.batch (length a.held) || nat_le a.ends now || has_come c.stop (asks_again a now after)
+
+-- one that holds messages begins to serve them, or wakes after a while to ask for more
+abbrev pub gathers_on : Actor → ConsumerSettings → ℕ → ℕ → Actor
+gathers_on a c now after =
+    if is_gathered a c now after then begins_first (record a { last_act = Ended }) c now
+    else record a { wake = Some (asks_again a now after); last_act = Gathered }
+
+-- one that wakes while it gathers asks for those that its batch lacks, and waits no longer than it gathers
+abbrev pub asks_for_more : Actor → ConsumerSettings → ℕ → Act × Actor
+asks_for_more a c now = (acts.Receive (c.batch - length a.held) (min c.wait ((a.ends - now) / 1000)) c.timeout, a)
+
+-- whether a consumer gathers messages, by what it did last
+abbrev pub is_gathering : LastAct → Bool
+is_gathering Gathered = true
+is_gathering last = false
 
 -- a consumer that wakes
 abbrev pub consumer_wake : Actor → ConsumerSettings → ℕ → List Got → Act × Actor
 consumer_wake a c now [] = rests a c now a.failed a.done
-consumer_wake a c now (g ∷ gs) = serves_on a c now g gs
+consumer_wake a c now (g ∷ gs) = if is_gathering a.last_act then asks_for_more a c now else serves_on a c now g gs
 
--- a consumer that got messages serves the first; without any it rests
+-- a consumer that got messages, of which it holds none or some, serves or gathers more; without any it rests
+abbrev pub got_more : List Got → Actor → ConsumerSettings → ℕ → List Got → Act × Actor
+got_more [] a c now [] = idle a c now
+got_more [] a c now (g ∷ gs) =
+    (acts.Nothing, gathers_on (record a { held = g ∷ gs; done = []; failed = []; ends = now + c.gather }) c now 0)
+got_more (h ∷ hs) a c now [] = (acts.Nothing, gathers_on a c now c.idle)
+got_more (h ∷ hs) a c now (g ∷ gs) = (acts.Nothing, gathers_on (record a { held = h ∷ hs ++ g ∷ gs }) c now 0)
+
 abbrev pub consumer_got : Actor → ConsumerSettings → ℕ → List Got → Act × Actor
-consumer_got a c now [] = idle a c now
-consumer_got a c now (g ∷ gs) = (acts.Nothing, serving (record a { done = []; failed = [] }) c now (g ∷ gs))
+consumer_got a c now gots = got_more a.held a c now gots
 
 -- after a failed service the first of its messages gets another timeout, if it is to have one
 abbrev pub has_failed : Actor → ConsumerSettings → ℕ → List Got → Act × Actor
@@ -255,6 +328,7 @@ has_failed a c now (g ∷ gs) = backs_off a c g gs
 -- after a refused receive a consumer waits; a message served is deleted; after a service comes the next one
 abbrev pub consumer_told : Actor → ConsumerSettings → ℕ → LastAct → Act × Actor
 consumer_told a c now Asked = idle a c now
+consumer_told a c now Gathered = (acts.Nothing, gathers_on a c now c.idle)
 consumer_told a c now (Served receipt) = (acts.Delete (receipt_text receipt), record a { last_act = Ended })
 consumer_told a c now Ended = (acts.Nothing, serving a c now a.held)
 consumer_told a c now Failed = has_failed a c now a.failed

@@ -4,10 +4,13 @@ use Rattle.sqs_model.specs.declared.agents.ConsumerSettings.{ConsumerSettings}
 use Rattle.sqs_model.specs.declared.agents.Forwarding.{Forwarding}
 use Rattle.sqs_model.specs.declared.agents.Groups.{Groups}
 use Rattle.sqs_model.specs.declared.agents.Groups.TheVariants.{ByWeight, InTurn}
+use Rattle.sqs_model.specs.declared.agents.Outage.{Outage}
 use Rattle.sqs_model.specs.declared.agents.ProducerSettings.{ProducerSettings}
 use Rattle.sqs_model.specs.declared.agents.Quantile.{Quantile}
 use Rattle.sqs_model.specs.declared.agents.Distribution.{Distribution}
 use Rattle.sqs_model.specs.declared.agents.Distribution.TheVariants.{Quantiles, Uniform}
+use Rattle.sqs_model.specs.declared.agents.Serving.{Serving}
+use Rattle.sqs_model.specs.declared.agents.Serving.TheVariants.{Each, Once}
 use Rattle.sqs_model.specs.declared.agents.WeightedGroup.{WeightedGroup}
 use Rattle.sqs_redrive.specs.declared.settings.Kind.{Kind}
 use Rattle.sqs_redrive.specs.declared.settings.Kind.TheVariants.{Fifo, Standard}
@@ -15,6 +18,7 @@ use Rattle.sqs_redrive.specs.declared.settings.Latency.{Latency}
 use Rattle.sqs_redrive.specs.declared.settings.Policy.{Policy}
 use Rattle.sqs_redrive.specs.declared.settings.QueueSettings.{QueueSettings}
 use Rattle.sqs_redrive.specs.declared.settings.TaskSettings.{TaskSettings}
+use Rattle.sqs_redrive.specs.Received.{most_received}
 use Rattle.sqs_model.specs.Longest.{longest_delay, longest_timeout}
 
 -- whether a number is from the one to the other
@@ -59,7 +63,7 @@ pub record IsQueueSettings (s : QueueSettings) : Type 0 where
   pub visibility : s.visibility ≤ 1000 * longest_timeout
   pub delay : s.delay ≤ 1000 * longest_delay
   pub retention : Between 60000 1209600000 s.retention
-  pub limit : Between 1 120000 s.in_flight_limit
+  pub limit : Between 1 most_received s.in_flight_limit
   pub policy : MayBePolicy s.policy
 
 -- a quantile after another one: its permille is greater, its time no less
@@ -132,17 +136,31 @@ abbrev pub MayBeHeartbeat : Option ℕ → Type 0
 MayBeHeartbeat None = Unit {0}
 MayBeHeartbeat (Some every) = Between 1000 (1000 * longest_timeout) every
 
+-- services of one message each, or of a receive with at most a day for each message
+abbrev pub IsServing : Serving → Type 0
+IsServing Each = Unit {0}
+IsServing (Once each) = each ≤ 86400000
+
+-- an outage that ends within 30 days, in which 0 to 1,000 services in a thousand fail
+pub record IsOutage (o : Outage) : Type 0 where
+  pub ordered : o.stretch.from ≤ o.stretch.to
+  pub ends : o.stretch.to ≤ 2592000000
+  pub failures : o.permille ≤ 1000
+
 -- a consumer that asks for 1 to 10 messages and waits for at most 20 seconds
 pub record IsConsumer (c : ConsumerSettings) : Type 0 where
   pub start : c.start ≤ 2592000000
   pub batch : Between 1 10 c.batch
+  pub gather : c.gather ≤ 300000
   pub wait : c.wait ≤ 20
   pub timeout : MayBeTimeout c.timeout
   pub service : IsDistribution c.service
+  pub serving : IsServing c.serving
   pub failures : c.fail_permille ≤ 1000
   pub idle : Between 1 86400000 c.idle
   pub forward : MayBeForward c.forward
   pub stop : MayBeMoment c.stop
+  pub outages : All IsOutage c.outages
   pub backoff : All (λ s. s ≤ longest_timeout) c.backoff
   pub heartbeat : MayBeHeartbeat c.heartbeat
 

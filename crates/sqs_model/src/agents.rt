@@ -64,6 +64,25 @@ pub struct ProducerSettings {
     pub stop: Option<u64>,
 }
 
+/// A stretch of time in which services fail with a chance of its own, as while a dependency is down.
+#[derive(Clone, Copy, Debug, PartialEq, Eq)]
+pub struct Outage {
+    /// In milliseconds from the start of the run; the end is not in it.
+    pub stretch: Stretch,
+    /// The number of services in a thousand that fail.
+    pub permille: u64,
+}
+
+/// What one service is of.
+#[derive(Clone, Copy, Debug, PartialEq, Eq)]
+pub enum Serving {
+    /// Each message of a receive by itself, one after another.
+    Each,
+    /// All messages of a receive at once, as under Lambda. To the time drawn it adds so many
+    /// milliseconds for each message.
+    Once { each: u64 },
+}
+
 /// The queue to which a consumer forwards what it served.
 #[derive(Clone, Copy, Debug, PartialEq, Eq)]
 pub struct Forwarding {
@@ -80,13 +99,16 @@ pub struct ConsumerSettings {
     pub start: u64,
     /// The number of messages that it asks for.
     pub batch: u64,
+    /// How long it gathers messages, from the first on, if a receive gave fewer.
+    pub gather: u64,
     /// How long a receive waits; 0 for a short poll.
     pub wait: u64,
     /// The visibility timeout that it asks for; none for the queue's.
     pub timeout: Option<u64>,
-    /// The time that it serves a message.
+    /// The time of a service.
     pub service: Distribution,
-    /// The number of services in a thousand that fail.
+    pub serving: Serving,
+    /// The number of services in a thousand that fail, but during an outage.
     pub fail_permille: u64,
     /// How long it waits after it got nothing.
     pub idle: u64,
@@ -95,13 +117,15 @@ pub struct ConsumerSettings {
     pub stop: Option<u64>,
     /// The text that makes a service fail if the message's body contains it.
     pub fails_on: Option<Text>,
-    /// When each service that ends fails, as while a dependency is down.
-    pub outage: Option<Stretch>,
+    /// When services that end fail with another chance. The first of them that has a moment counts.
+    pub outages: Listed<Outage>,
     /// Whether a failed service fails all messages of its receive.
     pub whole: bool,
     /// The visibility timeouts in seconds that follow a failed service, by the message's receive
     /// count; none if the message's timeout is left as it is.
     pub backoff: Listed<u64>,
+    /// Whether such a timeout is drawn, from 0 to that number of seconds.
+    pub jitter: bool,
     /// How often the visibility timeout of the message in service is set anew.
     pub heartbeat: Option<u64>,
 }

@@ -11,8 +11,8 @@ mod limits;
 
 pub use acts::{Act, Answer};
 pub use agents::{
-    ActorSettings, ConsumerSettings, Distribution, Forwarding, Groups, ProducerSettings, Quantile,
-    Role, Stretch, WeightedGroup,
+    ActorSettings, ConsumerSettings, Distribution, Forwarding, Groups, Outage, ProducerSettings,
+    Quantile, Role, Serving, Stretch, WeightedGroup,
 };
 pub use finals::{
     FinalMessage, FinalMessages, FinalTask, FinalTasks, FinalTransfer, FinalTransfers, Finals,

@@ -1,6 +1,9 @@
 //! The answers of a queue.
+ghost use Rattle.sqs_redrive.specs.Received.{most_received};
+
 use crate::transfers::Load;
-use sqs_message::{Body, Listed, MessageId, Origin, Receipt, Text};
+use sqs_message::{Body, MessageId, Origin, Receipt, Text};
+use std::marker::Model;
 
 /// The result of a send.
 #[derive(Clone, Copy, Debug, PartialEq, Eq)]
@@ -55,5 +58,41 @@ pub struct Got {
     pub left: Option<Load>,
 }
 
-/// The messages of one receive, in order.
-pub type Batch = Listed<Got>;
+/// The messages of one receive, in order. They are all in flight, so there are at most 120,000.
+/// Contracts see the list of them.
+#[derive(Drop)]
+pub struct Batch {
+    messages: Vec<Got>,
+}
+
+impl Model for Batch {
+    ghost use Rattle.std.specs.Prelude.{◌≤◌, List, length};
+    ghost use Rattle.sqs_redrive.specs.declared.answers.Got.{Got};
+    ghost use Rattle.sqs_redrive.specs.Received.{most_received};
+
+    ghost Value = { List Got };
+
+    ghost view = { λ b. b.messages.items };
+
+    ghost invariant = { λ b. length b.messages.items ≤ most_received };
+}
+
+impl Batch {
+    ghost use Rattle.std.specs.Prelude.{◌≡◌, ◌≤◌, length};
+
+    /// These messages.
+    pub fn new(messages: Vec<Got>) -> Batch
+        requires { length messages.items ≤ most_received }
+        ensures { result ≡ messages.items }
+    {
+        Batch { messages }
+    }
+
+    /// All messages, as the `Vec` that holds them.
+    pub fn into_vec(self) -> Vec<Got>
+        ensures messages { result.items ≡ self }
+        ensures few { length result.items ≤ most_received }
+    {
+        self.messages
+    }
+}

@@ -1,27 +1,51 @@
 //! What a consumer does.
-ghost use Rattle.std.specs.Prelude.{◌≡◌, ◌≤◌, ◌+◌, [], Ok, Some, false, max, true};
+ghost use Rattle.std.specs.Prelude.{◌≡◌, ◌≤◌, ◌+◌, [], All, Ok, Some, false, max};
 ghost use Rattle.sqs_message.specs.Ids.{receipt_text};
 ghost use Rattle.sqs_model.specs.declared.agents.ActorSettings.{ActorSettings};
-ghost use Rattle.sqs_model.specs.Actor.{woken, idle as the_idle, serving as the_serving, serves as the_serves, settles as the_settles, fails_service as the_fails_service, backs_off as the_backs_off, backoff_at as the_backoff_at, goes_on as the_goes_on, has_failed as the_has_failed, rests as the_rests, consumer_wake as the_consumer_wake, consumer_got as the_consumer_got, consumer_told as the_consumer_told};
+ghost use Rattle.sqs_model.specs.declared.agents.Serving.TheVariants.{Each};
+ghost use Rattle.sqs_model.specs.Actor.{woken, idle as the_idle, serving as the_serving, service_of, serves as the_serves, settles as the_settles, fails_service as the_fails_service, backs_off as the_backs_off, backoff_at as the_backoff_at, goes_on as the_goes_on, has_failed as the_has_failed, rests as the_rests, consumer_wake as the_consumer_wake, consumer_got as the_consumer_got, consumer_told as the_consumer_told};
 ghost use Rattle.sqs_model.specs.Answers.{most_count};
+ghost use Rattle.sqs_model.specs.Draw.{drawn_time};
+ghost use Rattle.sqs_model.specs.Longest.{longest_timeout};
 ghost use Rattle.sqs_model.specs.Valid.{IsConsumer, IsLatency, MayBeForward};
-ghost use Rattle.sim_actor.specs.Lives.{Becomes, Decides, DecidesAt, DoesNothing, EndsFirst, EndsThis, FollowsUp, Lived, lived, EndsAnywhere, ends_by_chance, ends_held, in_service, Lives};
+ghost use Rattle.sqs_redrive.specs.Received.{most_received};
+ghost use Rattle.sim_actor.specs.Lives.{Becomes, Changes, Decides, DecidesAt, DoesNothing, EndsFirst, EndsThis, FollowsUp, Lived, lived, EndsAnywhere, begins_service, ends_all, ends_by_chance, ends_held, in_service, Lives};
 
-use super::failing::fails;
+use super::failing::{failing, fails};
+use super::gathering::is_gathering;
 use super::{LastAct, Life, has_come};
 use crate::holding::Holding;
 use crate::replies::FollowUp;
 use sim_clock::Refusal;
+use sim_draw::Draws;
 use sqs_message::{MessageId, Receipt, ReceiptHandle};
-use sqs_model::{Act, ConsumerSettings, Forwarding, MOST_COUNT};
+use sqs_model::{Act, ConsumerSettings, Forwarding, MOST_COUNT, Serving};
 use sqs_redrive::{Batch, Got, Latency, Load, Outbound};
 
 // The timeout in seconds that follows a failed service: the entry of the receive, or else the last.
 fn backoff_at(timeouts: &[u64], count: u64) -> u64
-    ensures { result ≡ the_backoff_at timeouts.now count }
+    requires { All (λ s. s ≤ longest_timeout) timeouts.now }
+    ensures timeout { result ≡ the_backoff_at timeouts.now count }
+    ensures most { result ≤ longest_timeout }
 {
     let index = count.min(timeouts.len() as u64).saturating_sub(1);
     timeouts.get(index as usize).copied().unwrap_or(0)
+}
+
+// Draws how long a service of so many messages takes, in milliseconds.
+fn service_time(draws: &mut Draws, consumer: &ConsumerSettings, messages: u64) -> u64
+    requires words { draws.old.taken ≤ most_count }
+    requires consumer { IsConsumer consumer.now }
+    requires messages { messages ≤ most_received }
+    ensures drawn { service_of consumer.now.serving messages
+        (drawn_time consumer.now.service draws.old) ≡ (result, draws.new) }
+    ensures most { result ≤ most_count }
+{
+    let time = draws.time(&consumer.service);
+    match consumer.serving {
+        Serving::Each => time,
+        Serving::Once { each } => time + messages * each,
+    }
 }
 
 // Whether a service goes on, of a consumer that has a heartbeat.
@@ -56,8 +80,30 @@ impl Life {
         self.wake = Some(beat.max(now + 1));
     }
 
-    // Begins to serve the first of the messages that it holds. If it holds none, it wakes 1 ms
-    // later.
+    // Begins a service of so many messages.
+    pub(crate) fn begin(
+        &mut self,
+        consumer: &ConsumerSettings,
+        now: u64,
+        messages: u64,
+    ) -> Result<(), Refusal>
+        requires moment { now ≤ most_count }
+        requires messages { messages ≤ most_received }
+        requires consumer { IsConsumer consumer.now }
+        ensures life { Lived self.old self.new (λ a b. Becomes result b
+            (begins_service messages consumer.now now a)) }
+        ensures framed { self.new.number ≡ self.old.number }
+    {
+        if self.draws.taken() == MOST_COUNT {
+            return Err(Refusal::CountLimit);
+        }
+        self.ends = now + service_time(&mut self.draws, consumer, messages);
+        self.in_service(consumer, now);
+        Ok(())
+    }
+
+    // Goes on with the first of the messages that it holds: begins to serve it, or ends its service
+    // if it was served with those before it. If it holds none, it wakes 1 ms later.
     fn serve_held(&mut self, consumer: &ConsumerSettings, now: u64) -> Result<(), Refusal>
         requires moment { now ≤ most_count }
         requires consumer { IsConsumer consumer.now }
@@ -69,12 +115,14 @@ impl Life {
             self.wake = Some(now + 1);
             return Ok(());
         }
-        if self.draws.taken() == MOST_COUNT {
-            return Err(Refusal::CountLimit);
+        match consumer.serving {
+            Serving::Each => self.begin(consumer, now, 1),
+            Serving::Once { .. } => {
+                self.ends = now;
+                self.in_service(consumer, now);
+                Ok(())
+            }
         }
-        self.ends = now + self.draws.time(&consumer.service);
-        self.in_service(consumer, now);
-        Ok(())
     }
 
     // Forwards the message that it served.
@@ -162,13 +210,21 @@ impl Life {
     }
 
     // The first of the messages of a failed service gets another visibility timeout, in seconds.
-    fn back_off(&mut self, consumer: &ConsumerSettings, got: &Got) -> u64
-        ensures decision { Lived self.old self.new (λ a b. the_backs_off a consumer.now got.now
-            a.failed ≡ (Act.Change (receipt_text got.now.receipt) result, b)) }
+    fn back_off(&mut self, consumer: &ConsumerSettings, got: &Got) -> Result<u64, Refusal>
+        requires consumer { IsConsumer consumer.now }
+        ensures decision { Lives (Changes got.now.receipt) result self.old self.new
+            (λ a. the_backs_off a consumer.now got.now a.failed) }
         ensures framed { self.new.number ≡ self.old.number }
     {
         self.last_act = LastAct::Ended;
-        backoff_at(consumer.backoff.as_slice(), got.receipt.count)
+        let greatest = backoff_at(consumer.backoff.as_slice(), got.receipt.count);
+        if !consumer.jitter {
+            return Ok(greatest);
+        }
+        if self.draws.taken() == MOST_COUNT {
+            return Err(Refusal::CountLimit);
+        }
+        Ok(self.draws.uniform(0, greatest))
     }
 
     // Ends a service that failed.
@@ -192,7 +248,7 @@ impl Life {
         }
     }
 
-    // Ends a service well, of a consumer whose receives end as a whole.
+    // Ends a service of one message well, of a consumer whose receives end as a whole.
     fn end_in_whole(
         &mut self,
         consumer: &ConsumerSettings,
@@ -204,7 +260,7 @@ impl Life {
         requires moment { now ≤ most_count }
         requires consumer { IsConsumer consumer.now }
         ensures decision { EndsThis home id receipt result self.old self.new
-            (ends_held true consumer.now now) }
+            (ends_all Each consumer.now now) }
         ensures framed { self.new.number ≡ self.old.number }
     {
         self.holding.serve_first();
@@ -287,18 +343,21 @@ impl Life {
         if self.draws.taken() == MOST_COUNT {
             return Err(Refusal::CountLimit);
         }
-        let by_chance = self.draws.chance(consumer.fail_permille);
+        let by_chance = self.draws.chance(failing(consumer, now));
         let Some(got) = self.holding.first() else {
             return Ok(Act::Nothing);
         };
         let (id, receipt) = (got.id, got.receipt);
-        if fails(consumer, now, got, by_chance) {
+        if fails(consumer, got, &self.holding, by_chance) {
             return Ok(self.fail_service(consumer, id, receipt));
         }
-        if consumer.whole {
-            self.end_in_whole(consumer, home, now, id, receipt)
-        } else {
-            self.settle_held(consumer, home, now, id, receipt)
+        match (consumer.whole, consumer.serving) {
+            (false, _) => self.settle_held(consumer, home, now, id, receipt),
+            (true, Serving::Each) => self.end_in_whole(consumer, home, now, id, receipt),
+            (true, Serving::Once { .. }) => match self.holding.serve_all() {
+                None => Ok(Act::Nothing),
+                Some(got) => self.settle(consumer, home, now, got),
+            },
         }
     }
 
@@ -329,7 +388,7 @@ impl Life {
         ensures framed { self.new.number ≡ self.old.number }
     {
         if let Some(got) = self.holding.take_failed() {
-            let timeout = self.back_off(consumer, &got);
+            let timeout = self.back_off(consumer, &got)?;
             return Ok(Act::Change {
                 receipt: ReceiptHandle::from(got.receipt),
                 timeout,
@@ -365,6 +424,9 @@ impl Life {
         let Some(got) = self.holding.first() else {
             return self.rest(consumer, home, now);
         };
+        if is_gathering(self.last_act) {
+            return Ok(self.ask_for_more(consumer, now));
+        }
         if goes_on(consumer.heartbeat, self.ends, now) {
             let receipt = got.receipt;
             self.last_act = LastAct::Beat;
@@ -376,8 +438,8 @@ impl Life {
         self.end_service(consumer, home, now)
     }
 
-    // Serves the first of the messages received. If there is none, it waits until it receives
-    // again.
+    // Begins to serve the messages received, or gathers more. If it holds none, it waits until it
+    // receives again.
     pub(crate) fn consumer_got(
         &mut self,
         consumer: &ConsumerSettings,
@@ -391,12 +453,22 @@ impl Life {
         ensures framed { self.new.number ≡ self.old.number }
     {
         let messages = batch.into_vec();
+        if self.holding.first().is_some() {
+            let after = if messages.is_empty() {
+                consumer.idle
+            } else {
+                0
+            };
+            self.holding.append(messages)?;
+            return self.gather(consumer, now, after);
+        }
         if messages.is_empty() {
             self.idle(consumer, now);
             return Ok(());
         }
         self.holding = Holding::of(messages);
-        self.serve_held(consumer, now)
+        self.ends = now + consumer.gather;
+        self.gather(consumer, now, 0)
     }
 
     // After a refused receive it waits, after a service that ended well it deletes the message, and
@@ -414,6 +486,7 @@ impl Life {
     {
         match self.last_act {
             LastAct::Asked => self.idle(consumer, now),
+            LastAct::Gathered => self.gather(consumer, now, consumer.idle)?,
             LastAct::Served(receipt) => {
                 self.last_act = LastAct::Ended;
                 return Ok(FollowUp::Delete(receipt));
@@ -439,7 +512,7 @@ impl Life {
         ensures framed { self.new.number ≡ self.old.number }
     {
         if let Some(got) = self.holding.take_failed() {
-            let timeout = self.back_off(consumer, &got);
+            let timeout = self.back_off(consumer, &got)?;
             return Ok(FollowUp::Change {
                 receipt: got.receipt,
                 timeout,

@@ -1,12 +1,13 @@
 //! Receives by actors.
-ghost use Rattle.std.specs.Prelude.{Err, IfErr, IfOk, None, OnErr, true, ◌-◌, ◌<◌, ◌^◌, ◌≡◌, ◌≤◌};
+ghost use Rattle.std.specs.Prelude.{Err, IfErr, IfOk, None, OnErr, length, true, ◌-◌, ◌<◌, ◌^◌, ◌≡◌, ◌≤◌};
 ghost use Rattle.sqs_model.specs.declared.acts.Act.TheVariants as acts;
 ghost use Rattle.sqs_model.specs.Acts.{receive_row as the_receive_row, hosts_from as the_hosts_from, long_poll, receive_as, receive_none, receive_some, short_poll};
 ghost use Rattle.sqs_model.specs.Answers.{most_count};
 ghost use Rattle.sqs_model.specs.Queue.{IsFramed};
 ghost use Rattle.sqs_model.specs.Receive.{receive};
 ghost use Rattle.sqs_model.specs.Site.{Core, number_of};
-ghost use Rattle.sqs_model.specs.Valid.{IsStandard, MayBeTimeout};
+ghost use Rattle.sqs_model.specs.Valid.{IsQueueSettings, IsStandard, MayBeTimeout};
+ghost use Rattle.sqs_redrive.specs.Received.{most_received};
 ghost use Rattle.sqs_model.specs.Receive.{to_give};
 ghost use Rattle.sim_site.specs.Effects.{Makes, MakesAct};
 ghost use Rattle.sim_engine.specs.Limits.{StopsWhere};
@@ -73,11 +74,14 @@ pub fn received_by(
     short: bool,
 ) -> Result<Result<Vec<Got>, Refusal>, Refusal>
     requires moment { now ≤ most_count }
+    requires settings { IsQueueSettings queue.old.settings }
     requires short { short ≡ true → IsStandard queue.old.settings.kind }
     ensures received { IfOk result (λ r. receive queue.old now max timeout hosts short
         ≡ (gots_of r, queue.new)) }
     ensures unchanged { IfOk result (λ answer. OnErr answer (queue.new ≡ queue.old)) }
     ensures allowed { IfOk result (λ answer. IfOk answer (λ _. MayBeTimeout timeout)) }
+    ensures few { IfOk result (λ answer. IfOk answer
+        (λ gots. length gots.items ≤ most_received)) }
     ensures framed { IsFramed queue.old queue.new }
     ensures stops { IfErr result (StopsWhere
         (PassesReceive queue.old now max timeout hosts short)) }
@@ -147,6 +151,7 @@ impl Core {
     ) -> Result<Reply, Refusal>
         requires allowed { MayBeTimeout timeout }
         requires wait { wait ≤ most_wait }
+        requires few { length gots.items ≤ most_received }
         ensures { Makes result handling.old handling.new self.old self.new
             (λ k a c. receive_some k a c max wait timeout c.queue gots.items) }
     {

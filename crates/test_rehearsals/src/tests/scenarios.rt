@@ -2,7 +2,8 @@
 //! the formats.
 use crate::tests::machines::scenario;
 use sim_engine::Edge;
-use sim_scenario::{Scenario, edges};
+use sim_scenario::{Draft, Newest, Scenario, Scripts, edges};
+use sqs_model::{ActorSettings, Outage, Role, Serving, Stretch};
 use std::alloc::Global;
 
 // Whether these are the ways of a scenario.
@@ -57,6 +58,54 @@ fn scenarios_give_their_parts(rt: HostRuntime) {
         b"version = 1\nhorizon = 90\nseed = 7\nsample = 5\n[[queue]]\nname = 'q'\nvisibility_s = 3\n";
     match scenario(rt.alloc(), text) {
         Some(scenario) => assert!(rt; has_parts(scenario, (90, 7, 5), 3000, b"q")),
+        None => assert!(rt; false),
+    }
+}
+
+// The scenario of a text, of which the preview may be read.
+fn previewed(alloc: Global, text: &[u8]) -> Option<Scenario> {
+    let draft = Draft::parse_upto(alloc, Newest::Preview, text).ok()?;
+    draft.read(alloc, &Scripts::new(Vec::new(alloc))).ok()
+}
+
+// Whether actors are one consumer with this kind of service, these outages, and a backoff that is
+// drawn.
+fn is_served(actors: &[ActorSettings], serving: Serving, outages: &[Outage]) -> bool {
+    match actors {
+        [actor] => {
+            match &actor.role {
+                Role::Consumer(consumer) => {
+                    consumer.serving == serving
+                        && consumer.outages.as_slice() == outages
+                        && consumer.jitter
+                }
+                _ => false,
+            }
+        }
+        _ => false,
+    }
+}
+
+#[test]
+fn consumers_of_version_3_are_as_their_keys_say(rt: HostRuntime) {
+    let text =
+        b"version = 3\nhorizon = 90\n[[queue]]\nname = 'q'\n[[actor]]\nname = 'c'\nkind = 'consumer'\nqueue = 'q'\nservice_min_ms = 1\nservice_max_ms = 2\nbatch_service = 'once'\nservice_each_ms = 20\nfails_between_ms = [[10, 20], [5, 5]]\nfails_permille = 900\nbackoff_s = [1]\nbackoff_jitter = 'full'\n".as_slice();
+    let outages = [
+        Outage {
+            stretch: Stretch { from: 10, to: 20 },
+            permille: 900,
+        },
+        Outage {
+            stretch: Stretch { from: 5, to: 5 },
+            permille: 900,
+        },
+    ];
+    match previewed(rt.alloc(), text) {
+        Some(scenario) => {
+            let parts = scenario.into_parts();
+            let once = Serving::Once { each: 20 };
+            assert!(rt; is_served(parts.actors.as_slice(), once, &outages));
+        }
         None => assert!(rt; false),
     }
 }

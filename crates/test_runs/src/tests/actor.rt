@@ -1,6 +1,6 @@
 //! Lives of actors, step by step: the answers that they get and what they do.
 ghost use Rattle.std.specs.Prelude.{◌≤◌, length};
-ghost use Rattle.sqs_model.specs.Valid.{AreGroups, IsLatency, MayBeGroups};
+ghost use Rattle.sqs_model.specs.Valid.{AreGroups, IsConsumer, IsLatency, MayBeGroups};
 ghost use Rattle.sim_actor.specs.Lives.{IsRole};
 
 use crate::tests::same::same;
@@ -10,8 +10,8 @@ use sqs_message::{
     Template, Text,
 };
 use sqs_model::{
-    Act, ActorSettings, ConsumerSettings, Distribution, Forwarding, Groups, ProducerSettings, Role,
-    WeightedGroup,
+    Act, ActorSettings, ConsumerSettings, Distribution, Forwarding, Groups, Outage,
+    ProducerSettings, Role, Serving, Stretch, WeightedGroup,
 };
 use sqs_redrive::{Batch, Got, Latency, Load, Outbound};
 use std::alloc::{AllocError, Global};
@@ -295,17 +295,20 @@ fn consumer(alloc: Global, fail_permille: u64, least: u64, greatest: u64) -> Act
         role: Role::Consumer(ConsumerSettings {
             start: 7,
             batch: 2,
+            gather: 0,
             wait: 5,
             timeout: Some(30),
             service: Distribution::Uniform(1, 100),
+            serving: Serving::Each,
             fail_permille,
             idle: 1000,
             forward: Some(Forwarding { to: 3, latency }),
             stop: None,
             fails_on: None,
-            outage: None,
+            outages: Listed::new(Vec::new(alloc)),
             whole: false,
             backoff: Listed::new(Vec::new(alloc)),
+            jitter: false,
             heartbeat: None,
         }),
     }
@@ -492,17 +495,20 @@ fn failing_consumer(rt: &impl Abort, alloc: Global) -> ActorSettings
         role: Role::Consumer(ConsumerSettings {
             start: 7,
             batch: 2,
+            gather: 0,
             wait: 5,
             timeout: Some(30),
             service: Distribution::Uniform(1500, 1500),
+            serving: Serving::Each,
             fail_permille: 0,
             idle: 1000,
             forward: None,
             stop: Some(1509),
             fails_on: Some(text(rt, alloc, "x")),
-            outage: None,
+            outages: Listed::new(Vec::new(alloc)),
             whole: true,
             backoff: Listed::new(timeouts),
+            jitter: false,
             heartbeat: Some(1000),
         }),
     }
@@ -524,6 +530,221 @@ fn consumer_prolongs_backs_off_as_a_whole_and_stops(rt: HostRuntime) {
     ];
     let settings = failing_consumer(&rt, rt.alloc());
     consume(&rt, rt.alloc(), settings, life, 5);
+}
+
+// A consumer that serves for 1 to 100 ms, and asks for two messages. No service fails.
+fn plain_consumer(alloc: Global) -> ConsumerSettings
+    ensures { IsConsumer result }
+{
+    ConsumerSettings {
+        start: 7,
+        batch: 2,
+        gather: 0,
+        wait: 5,
+        timeout: Some(30),
+        service: Distribution::Uniform(1, 100),
+        serving: Serving::Each,
+        fail_permille: 0,
+        idle: 1000,
+        forward: None,
+        stop: None,
+        fails_on: None,
+        outages: Listed::new(Vec::new(alloc)),
+        whole: false,
+        backoff: Listed::new(Vec::new(alloc)),
+        jitter: false,
+        heartbeat: None,
+    }
+}
+
+// Takes a consumer of queue 2 with these settings through a life, as `consume` does.
+fn consume_by(
+    rt: &impl Abort,
+    alloc: Global,
+    consumer: ConsumerSettings,
+    steps: &[Step],
+    wakes: u64,
+)
+    requires { IsConsumer consumer }
+{
+    let settings = ActorSettings {
+        home: 2,
+        role: Role::Consumer(consumer),
+    };
+    consume(rt, alloc, settings, steps, wakes);
+}
+
+#[test]
+fn messages_served_at_once_end_one_after_another(rt: HostRuntime) {
+    // The words of agent 0 under seed 0 give in turn: a service of 68 ms, and 10 more for each of
+    // two messages; 563 of 1,000, a failure; 896, none; a service of 16 ms, and 20 more.
+    let mut consumer = plain_consumer(rt.alloc());
+    consumer.serving = Serving::Once { each: 10 };
+    consumer.fail_permille = 600;
+    let life: &[Step] = &[
+        (7, Told::Wake, "receive 2 5 Some(30)", None),
+        (7, Told::Two, "nothing", Some(95)),
+        (95, Told::Wake, "serve r-2-4-1 true", None),
+        (95, Told::Other, "nothing", Some(96)),
+        (96, Told::Wake, "serve r-2-6-1 false", None),
+        (96, Told::Other, "delete r-2-6-1", None),
+        (96, Told::Other, "nothing", Some(97)),
+        (97, Told::Wake, "receive 2 5 Some(30)", None),
+        (97, Told::Two, "nothing", Some(133)),
+    ];
+    consume_by(&rt, rt.alloc(), consumer, life, 4);
+}
+
+#[test]
+fn a_whole_batch_served_at_once_takes_two_words(rt: HostRuntime) {
+    // The words of agent 0 under seed 0 give in turn: a service of 68 ms, and 10 more for each of
+    // two messages; 563 of 1,000, no failure of the two; a service of 90 ms, and 20 more.
+    let mut consumer = plain_consumer(rt.alloc());
+    consumer.serving = Serving::Once { each: 10 };
+    consumer.whole = true;
+    consumer.fail_permille = 500;
+    let life: &[Step] = &[
+        (7, Told::Wake, "receive 2 5 Some(30)", None),
+        (7, Told::Two, "nothing", Some(95)),
+        (95, Told::Wake, "serve r-2-4-1 false", None),
+        (95, Told::Other, "delete r-2-4-1", None),
+        (95, Told::Other, "nothing", Some(96)),
+        (96, Told::Wake, "serve r-2-6-1 false", None),
+        (96, Told::Other, "delete r-2-6-1", None),
+        (96, Told::Other, "nothing", Some(97)),
+        (97, Told::Wake, "receive 2 5 Some(30)", None),
+        (97, Told::Two, "nothing", Some(207)),
+    ];
+    consume_by(&rt, rt.alloc(), consumer, life, 4);
+}
+
+#[test]
+fn one_body_fails_a_whole_batch_with_timeouts_drawn(rt: HostRuntime) {
+    // The words of agent 0 under seed 0 give in turn: a service of 68 ms; 563 of 1,000, no failure
+    // by chance; timeouts of 54 and 9 from 0 to 60; a service of 72 ms.
+    let mut consumer = plain_consumer(rt.alloc());
+    consumer.serving = Serving::Once { each: 0 };
+    consumer.whole = true;
+    consumer.fail_permille = 500;
+    consumer.fails_on = Some(text(&rt, rt.alloc(), "y"));
+    consumer.backoff = Listed::new(vec![in rt.alloc(); 60].expect(&rt, "memory"));
+    consumer.jitter = true;
+    let life: &[Step] = &[
+        (7, Told::Wake, "receive 2 5 Some(30)", None),
+        (7, Told::Two, "nothing", Some(75)),
+        (75, Told::Wake, "serve r-2-4-1 true", None),
+        (75, Told::Other, "change r-2-4-1 54", None),
+        (75, Told::Other, "nothing", Some(76)),
+        (76, Told::Wake, "change r-2-6-1 9", None),
+        (76, Told::Other, "nothing", Some(77)),
+        (77, Told::Wake, "receive 2 5 Some(30)", None),
+        (77, Told::Two, "nothing", Some(149)),
+    ];
+    consume_by(&rt, rt.alloc(), consumer, life, 4);
+}
+
+#[test]
+fn consumer_gathers_until_its_time_is_over(rt: HostRuntime) {
+    // It gathers for 2,500 ms from 7 on. The first word of agent 0 under seed 0 gives a service of
+    // 68 ms.
+    let mut consumer = plain_consumer(rt.alloc());
+    consumer.batch = 5;
+    consumer.gather = 2500;
+    let life: &[Step] = &[
+        (7, Told::Wake, "receive 5 5 Some(30)", None),
+        (7, Told::Two, "nothing", Some(8)),
+        (8, Told::Wake, "receive 3 2 Some(30)", None),
+        (8, Told::Waiting, "nothing", None),
+        (2008, Told::Empty, "nothing", Some(2507)),
+        (2507, Told::Wake, "receive 3 0 Some(30)", None),
+        (2507, Told::Other, "nothing", Some(2575)),
+        (2575, Told::Wake, "serve r-2-4-1 false", None),
+    ];
+    consume_by(&rt, rt.alloc(), consumer, life, 4);
+}
+
+#[test]
+fn a_batch_that_was_gathered_is_served_once_it_is_whole(rt: HostRuntime) {
+    // The first word of agent 0 under seed 0 gives a service of 68 ms, and 10 more for each of four
+    // messages.
+    let mut consumer = plain_consumer(rt.alloc());
+    consumer.batch = 4;
+    consumer.gather = 2500;
+    consumer.serving = Serving::Once { each: 10 };
+    let life: &[Step] = &[
+        (7, Told::Wake, "receive 4 5 Some(30)", None),
+        (7, Told::Two, "nothing", Some(8)),
+        (8, Told::Wake, "receive 2 2 Some(30)", None),
+        (8, Told::Two, "nothing", Some(116)),
+        (116, Told::Wake, "serve r-2-4-1 false", None),
+    ];
+    consume_by(&rt, rt.alloc(), consumer, life, 3);
+}
+
+#[test]
+fn consumer_that_may_not_ask_again_gathers_no_more(rt: HostRuntime) {
+    let mut consumer = plain_consumer(rt.alloc());
+    consumer.batch = 5;
+    consumer.gather = 2500;
+    consumer.stop = Some(8);
+    let life: &[Step] = &[
+        (7, Told::Wake, "receive 5 5 Some(30)", None),
+        (7, Told::Two, "nothing", Some(75)),
+    ];
+    consume_by(&rt, rt.alloc(), consumer, life, 1);
+}
+
+// Ends a service at a moment, of a consumer with two outages: from 100 to 200 no service fails,
+// from 150 to 300 each one. At any other time `otherwise` of a thousand fail.
+fn serve_in_outages(
+    rt: &impl Abort,
+    alloc: Global,
+    moment: u32,
+    otherwise: u64,
+    wanted: &'static str,
+)
+    requires { otherwise ≤ 1000 }
+{
+    let (first, second) = (
+        Stretch { from: 100, to: 200 },
+        Stretch { from: 150, to: 300 },
+    );
+    let outages = vec![in alloc;
+        Outage {
+            stretch: first,
+            permille: 0
+        },
+        Outage {
+            stretch: second,
+            permille: 1000
+        },
+    ];
+    let mut consumer = plain_consumer(alloc);
+    consumer.service = Distribution::Uniform(1, 1);
+    consumer.outages = Listed::new(outages.expect(rt, "memory"));
+    consumer.fail_permille = otherwise;
+    let began = moment.saturating_sub(1);
+    let life: &[Step] = &[
+        (began, Told::Two, "nothing", Some(u64::from(moment))),
+        (moment, Told::Wake, wanted, None),
+    ];
+    consume_by(rt, alloc, consumer, life, 1);
+}
+
+#[test]
+fn the_first_outage_that_has_a_moment_says_how_many_fail(rt: HostRuntime) {
+    for &(moment, otherwise, wanted) in &[
+        (99, 1000, "serve r-2-4-1 true"),
+        (99, 0, "serve r-2-4-1 false"),
+        (100, 1000, "serve r-2-4-1 false"),
+        (150, 1000, "serve r-2-4-1 false"),
+        (199, 1000, "serve r-2-4-1 false"),
+        (200, 0, "serve r-2-4-1 true"),
+        (299, 0, "serve r-2-4-1 true"),
+        (300, 0, "serve r-2-4-1 false"),
+    ] {
+        serve_in_outages(&rt, rt.alloc(), moment, otherwise, wanted);
+    }
 }
 
 // What a producer of messages with this body sends first, with the number 0.

@@ -5,4 +5,4 @@ pub returns-then-is_empty-clause-decision : goal.returns-then-is_empty-clause-de
 returns-then-is_empty-clause-decision c s = let idles = c.idle.ensures.decision s in search rules
 
 pub returns-clause-decision : goal.returns-clause-decision
-returns-clause-decision c s = let served = c.serve_held.ensures.life s in search rules
+returns-clause-decision c s = let served = c.begin.ensures.life s in search rules

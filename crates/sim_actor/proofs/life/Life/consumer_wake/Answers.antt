@@ -1,8 +1,9 @@
-use Rattle.std.proofs.Common.{[], ap, arith, sym, ◌∙◌, ◌≡◌, ◌∷◌}
-use Rattle.sqs_model.specs.Actor.{woken}
+use Rattle.std.proofs.Common.{List, None, [], ap, arith, sym, ◌+◌, ◌∙◌, ◌≡◌, ◌∷◌}
+use Rattle.sqs_redrive.specs.declared.answers.Got.{Got}
+use Rattle.sqs_model.specs.Actor.{asks_for_more, woken}
 use Rattle.sqs_model.proofs.ConsumerWakes.{consumer_woke}
 use Rattle.sim_actor.specs.Holdings.{Holding}
-use Rattle.sim_actor.specs.Lives.{Life, lived}
+use Rattle.sim_actor.specs.Lives.{Life, last_act_of, lived}
 use Rattle.sim_actor.proofs.Batches.{none_first, some_first}
 use Rattle.sim_actor.proofs.life.Life.consumer_wake.Goals as goal
 
@@ -34,5 +35,18 @@ returns-clause-decision c s at_home =
     let held : c.args.self.now.held ≡ c.in-Some.got.now ∷ first.0 = sym (ap (λ (l : Life). l.held) c.count_wake.ensures) ∙ counted in
     let ends : c.self-2.inside.ends ≡ c.args.self.now.ends = ap (λ (l : Life). l.ends) (c.self-2.view_is ∙ c.count_wake.ensures) in
     let not_on = rw ends at c.if-goes_on.ensures in
+    let last : last_act_of c.self-2.inside.last_act ≡ c.args.self.now.last_act = ap (λ (l : Life). l.last_act) (c.self-2.view_is ∙ c.count_wake.ensures) in
+    let serves = rw last at c.if-is_gathering.ensures in
     let ended = c.end_service.ensures.decision s c.in-Some.got.now first.0 at_home counted in
-    rw (held, ← not_on) (rw c.count_wake.ensures at ended)
+    rw (held, ← serves, ← not_on) (rw c.count_wake.ensures at ended)
+
+pub returns-then-is_gathering-clause-decision : goal.returns-then-is_gathering-clause-decision
+returns-then-is_gathering-clause-decision c s at_home =
+    let first = some_first c.self-2.inside.holding.held c.in-Some.got.now c.in-Some.ensures in
+    let counted : c.count_wake.new.self.held ≡ c.in-Some.got.now ∷ first.0 = ap (λ (l : Life). l.held) (sym c.self-2.view_is) ∙ first.1 in
+    let held : c.args.self.now.held ≡ c.in-Some.got.now ∷ first.0 = sym (ap (λ (l : Life). l.held) c.count_wake.ensures) ∙ counted in
+    let last : last_act_of c.self-2.inside.last_act ≡ c.args.self.now.last_act = ap (λ (l : Life). l.last_act) (c.self-2.view_is ∙ c.count_wake.ensures) in
+    let gathers = rw last at c.if-is_gathering.ensures in
+    let woke : record c.args.self.now { held = c.in-Some.got.now ∷ first.0; wake = None; wakes = c.args.self.now.wakes + 1 } ≡ c.count_wake.new.self =
+    ap (λ (gs : List Got). record c.args.self.now { held = gs; wake = None; wakes = c.args.self.now.wakes + 1 }) (sym held) ∙ sym c.count_wake.ensures in
+    rw (held, ← gathers) (ap (λ (l : Life). asks_for_more (lived s l) c.args.consumer.now c.args.now) woke ∙ c.ask_for_more.ensures s)

@@ -3,7 +3,7 @@ use Rattle.sim_actor.specs.Holdings.{Holding}
 use Rattle.sim_actor.proofs.life.Life.rest.Goals as goal
 
 pub returns-in-Some-clause-decision : goal.returns-in-Some-clause-decision
-returns-in-Some-clause-decision c s at_home = rw (← c.self.view_is, c.in-Some.ensures, c.from.ensures) (c.back_off-timeout.ensures.decision s)
+returns-in-Some-clause-decision c s at_home = rw (← c.self.view_is, c.in-Some.ensures, c.from.ensures) (c.in_ok-timeout.ensures.decision s)
 
 pub returns-in-Some-take_done-clause-decision : goal.returns-in-Some-take_done-clause-decision
 returns-in-Some-take_done-clause-decision c s at_home =

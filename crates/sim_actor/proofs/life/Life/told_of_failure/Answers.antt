@@ -4,7 +4,7 @@ use Rattle.sqs_model.specs.Actor.{Actor}
 use Rattle.sim_actor.proofs.life.Life.told_of_failure.Goals as goal
 
 pub returns-in-Some-clause-decision : goal.returns-in-Some-clause-decision
-returns-in-Some-clause-decision c s = rw (← c.self.view_is, c.in-Some.ensures) (c.back_off-timeout.ensures.decision s)
+returns-in-Some-clause-decision c s = rw (← c.self.view_is, c.in-Some.ensures) (c.in_ok-timeout.ensures.decision s)
 
 pub returns-in_err-serve_held-clause-decision : goal.returns-in_err-serve_held-clause-decision
 returns-in_err-serve_held-clause-decision c s =

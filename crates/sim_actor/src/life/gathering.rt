@@ -1,0 +1,91 @@
+//! How a consumer gathers messages before it serves them.
+ghost use Rattle.std.specs.Prelude.{◌≡◌, ◌≤◌};
+ghost use Rattle.sqs_model.specs.declared.agents.ActorSettings.{ActorSettings};
+ghost use Rattle.sqs_model.specs.Actor.{asks_again as the_asks_again, asks_for_more as the_asks_for_more, gathers_on, is_gathered as the_is_gathered, is_gathering as the_is_gathering};
+ghost use Rattle.sqs_model.specs.Answers.{most_count};
+ghost use Rattle.sqs_model.specs.Valid.{IsConsumer};
+ghost use Rattle.sim_actor.specs.Lives.{DoesNothing, Lives, last_act_of, lived};
+
+use super::{LastAct, Life, has_come};
+use sim_clock::Refusal;
+use sqs_model::{Act, ConsumerSettings};
+
+/// The most messages that one service may be of: no queue has more in flight.
+const MOST_SERVED: u64 = 120_000;
+
+// Whether a consumer gathers messages, by its last act.
+pub(crate) fn is_gathering(last_act: LastAct) -> bool
+    ensures { result ≡ the_is_gathering (last_act_of last_act) }
+{
+    match last_act {
+        LastAct::Gathered => true,
+        LastAct::Asked | LastAct::Served(_) | LastAct::Ended | LastAct::Failed | LastAct::Beat =>
+            false,
+    }
+}
+
+impl Life {
+    // When a consumer that gathers messages would ask again, after a while.
+    fn asks_again(&self, now: u64, after: u64) -> u64
+        requires moment { now ≤ most_count }
+        requires pause { after ≤ most_count }
+        ensures { (s : ActorSettings) → result ≡ the_asks_again (lived s self.now) now after }
+    {
+        self.ends.min(now + after).max(now + 1)
+    }
+
+    // Whether it gathers no more messages: it holds a whole batch, its time is over, or it stops
+    // before it would ask again.
+    fn is_gathered(&self, consumer: &ConsumerSettings, now: u64, after: u64) -> bool
+        requires moment { now ≤ most_count }
+        requires pause { after ≤ most_count }
+        ensures { (s : ActorSettings) → result ≡ the_is_gathered (lived s self.now) consumer.now
+            now after }
+    {
+        self.holding.held_count() as u64 >= consumer.batch
+            || self.ends <= now
+            || has_come(consumer.stop, self.asks_again(now, after))
+    }
+
+    // Begins to serve the messages that it holds, or wakes after a while to ask for more. Returns
+    // `Memory` if it holds more of them than one service may be of.
+    pub(crate) fn gather(
+        &mut self,
+        consumer: &ConsumerSettings,
+        now: u64,
+        after: u64,
+    ) -> Result<(), Refusal>
+        requires moment { now ≤ most_count }
+        requires pause { after ≤ most_count }
+        requires consumer { IsConsumer consumer.now }
+        ensures decision { Lives DoesNothing result self.old self.new
+            (λ a. (Act.Nothing, gathers_on a consumer.now now after)) }
+        ensures framed { self.new.number ≡ self.old.number }
+    {
+        if !self.is_gathered(consumer, now, after) {
+            self.wake = Some(self.asks_again(now, after));
+            self.last_act = LastAct::Gathered;
+            return Ok(());
+        }
+        let messages = self.holding.held_count() as u64;
+        if messages > MOST_SERVED {
+            return Err(Refusal::Memory);
+        }
+        self.last_act = LastAct::Ended;
+        self.begin(consumer, now, messages)
+    }
+
+    // Asks for the messages that its batch lacks, and waits no longer than it gathers.
+    pub(crate) fn ask_for_more(&self, consumer: &ConsumerSettings, now: u64) -> Act
+        ensures { (s : ActorSettings) → the_asks_for_more (lived s self.now) consumer.now now
+            ≡ (result, lived s self.now) }
+    {
+        let held = self.holding.held_count() as u64;
+        let left = self.ends.saturating_sub(now) / 1000;
+        Act::Receive {
+            max: consumer.batch.saturating_sub(held),
+            wait: consumer.wait.min(left),
+            timeout: consumer.timeout,
+        }
+    }
+}
