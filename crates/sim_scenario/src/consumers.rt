@@ -148,7 +148,11 @@ fn serving(section: &Section<'_>) -> Result<Serving, ReadError>
 {
     let once = section.optional("batch_service", &OneOf(SERVINGS), EACH)?;
     let each = section.optional("service_each_ms", &Integer(0, 86_400_000), 0)?;
-    Ok(if once { Serving::Once { each } } else { Serving::Each })
+    Ok(if once {
+        Serving::Once { each }
+    } else {
+        Serving::Each
+    })
 }
 
 /// A failed service fails its batch as a whole.
