@@ -164,13 +164,18 @@ Lived old new P = (s : ActorSettings) → P (lived s old) (lived s new)
 abbrev pub in_service : ConsumerSettings → ℕ → Life → Life
 in_service c now l = record l { wake = Some (max (now + 1) (next_beat c.heartbeat now l.ends)) }
 
--- a consumer that begins a service of so many messages
-abbrev pub begins_service : ℕ → ConsumerSettings → ℕ → Actor → Actor
-begins_service messages c now a = begins a c now (service_of c.serving messages (drawn_time c.service a.draws))
+-- how long a service of so many messages takes
+abbrev pub drawn_service : ℕ → ConsumerSettings → Draws → ℕ × Draws
+drawn_service messages c draws = service_of c.serving messages (drawn_time c.service draws)
 
--- whether a service fails whose first message is this one, with the others that are held
-abbrev pub service_fails : ConsumerSettings → Got → List Got → Bool → Bool
-service_fails c g gs by_chance = fails c (at_stake c.serving c.whole g gs) by_chance
+-- a consumer that begins such a service
+abbrev pub begins_service : ℕ → ConsumerSettings → ℕ → Actor → Actor
+begins_service messages c now a = begins a c now (drawn_service messages c a.draws)
+
+-- the definitions' answer whether a service fails, of a consumer that holds these messages, of which this is the first
+abbrev pub IsFailure : ConsumerSettings → Got → List Got → Bool → Bool → Type 0
+IsFailure c first held by_chance result =
+    (others : List Got) → held ≡ first ∷ others → result ≡ fails c (at_stake c.serving c.whole first others) by_chance
 
 -- an actor that wakes after a time that is drawn
 abbrev pub wakes_by : Distribution → ℕ → Actor → Actor

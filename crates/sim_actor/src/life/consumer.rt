@@ -3,13 +3,12 @@ ghost use Rattle.std.specs.Prelude.{◌≡◌, ◌≤◌, ◌+◌, [], All, Ok, 
 ghost use Rattle.sqs_message.specs.Ids.{receipt_text};
 ghost use Rattle.sqs_model.specs.declared.agents.ActorSettings.{ActorSettings};
 ghost use Rattle.sqs_model.specs.declared.agents.Serving.TheVariants.{Each};
-ghost use Rattle.sqs_model.specs.Actor.{woken, idle as the_idle, serving as the_serving, service_of, serves as the_serves, settles as the_settles, fails_service as the_fails_service, backs_off as the_backs_off, backoff_at as the_backoff_at, goes_on as the_goes_on, has_failed as the_has_failed, rests as the_rests, consumer_wake as the_consumer_wake, consumer_got as the_consumer_got, consumer_told as the_consumer_told};
+ghost use Rattle.sqs_model.specs.Actor.{woken, idle as the_idle, serving as the_serving, serves as the_serves, settles as the_settles, fails_service as the_fails_service, backs_off as the_backs_off, backoff_at as the_backoff_at, goes_on as the_goes_on, has_failed as the_has_failed, rests as the_rests, consumer_wake as the_consumer_wake, consumer_got as the_consumer_got, consumer_told as the_consumer_told};
 ghost use Rattle.sqs_model.specs.Answers.{most_count};
-ghost use Rattle.sqs_model.specs.Draw.{drawn_time};
 ghost use Rattle.sqs_model.specs.Longest.{longest_timeout};
 ghost use Rattle.sqs_model.specs.Valid.{IsConsumer, IsLatency, MayBeForward};
 ghost use Rattle.sqs_redrive.specs.Received.{most_received};
-ghost use Rattle.sim_actor.specs.Lives.{Becomes, Changes, Decides, DecidesAt, DoesNothing, EndsFirst, EndsThis, FollowsUp, Lived, lived, EndsAnywhere, begins_service, ends_all, ends_by_chance, ends_held, in_service, Lives};
+ghost use Rattle.sim_actor.specs.Lives.{Becomes, Changes, Decides, DecidesAt, DoesNothing, EndsFirst, EndsThis, FollowsUp, Lived, lived, EndsAnywhere, begins_service, drawn_service, ends_all, ends_by_chance, ends_held, in_service, Lives};
 
 use super::failing::{failing, fails};
 use super::gathering::is_gathering;
@@ -37,8 +36,7 @@ fn service_time(draws: &mut Draws, consumer: &ConsumerSettings, messages: u64) -
     requires words { draws.old.taken ≤ most_count }
     requires consumer { IsConsumer consumer.now }
     requires messages { messages ≤ most_received }
-    ensures drawn { service_of consumer.now.serving messages
-        (drawn_time consumer.now.service draws.old) ≡ (result, draws.new) }
+    ensures drawn { drawn_service messages consumer.now draws.old ≡ (result, draws.new) }
     ensures most { result ≤ most_count }
 {
     let time = draws.time(&consumer.service);
@@ -209,7 +207,8 @@ impl Life {
         self.serve(home, now, got, consumer.forward)
     }
 
-    // The first of the messages of a failed service gets another visibility timeout, in seconds.
+    // The first of the messages of a failed service gets another visibility timeout, in seconds,
+    // which may be drawn.
     fn back_off(&mut self, consumer: &ConsumerSettings, got: &Got) -> Result<u64, Refusal>
         requires consumer { IsConsumer consumer.now }
         ensures decision { Lives (Changes got.now.receipt) result self.old self.new

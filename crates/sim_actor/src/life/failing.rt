@@ -1,9 +1,8 @@
 //! Whether a service fails.
 ghost use Rattle.std.specs.List.{list_any};
-ghost use Rattle.std.specs.Prelude.{◌≡◌, ◌∷◌, List, option_map};
+ghost use Rattle.std.specs.Prelude.{◌≡◌, option_map};
 ghost use Rattle.sqs_model.specs.Actor.{failing_at as the_failing_at, is_in as the_is_in, is_poison as the_is_poison};
-ghost use Rattle.sqs_redrive.specs.declared.answers.Got.{Got};
-ghost use Rattle.sim_actor.specs.Lives.{service_fails};
+ghost use Rattle.sim_actor.specs.Lives.{IsFailure};
 
 use crate::holding::Holding;
 use sqs_message::{Body, Text};
@@ -56,8 +55,7 @@ pub fn failing(consumer: &ConsumerSettings, now: u64) -> u64
 /// Whether a service fails: by chance, by the first of the messages held, or by any of them if all
 /// are served at once and end as a whole.
 pub fn fails(consumer: &ConsumerSettings, first: &Got, holding: &Holding, by_chance: bool) -> bool
-    ensures { (others : List Got) → holding.now.held ≡ first.now ∷ others
-        → result ≡ service_fails consumer.now first.now others by_chance }
+    ensures { IsFailure consumer.now first.now holding.now.held by_chance result }
 {
     if by_chance {
         return true;
