@@ -280,7 +280,7 @@ impl Actors {
     ///
     /// # Errors
     ///
-    /// `CountLimit` if the actor would count past the limit.
+    /// `Memory`. `CountLimit` if the actor would count past the limit.
     pub fn answered_at(
         &mut self,
         place: usize,

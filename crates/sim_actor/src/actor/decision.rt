@@ -93,8 +93,8 @@ impl Actor {
     ///
     /// # Errors
     ///
-    /// `CountLimit` exactly if the decision would count past the limit; nothing is promised of the
-    /// actor after it.
+    /// `CountLimit` exactly if the decision would count past the limit, and `Memory`, which a
+    /// consumer that gathers messages may report. After either nothing is promised of the actor.
     pub fn answered(&mut self, now: u64, reply: Reply) -> Result<FollowUp, Refusal>
         requires { now ≤ most_count }
         ensures decision { FollowsUp result self.new (the_next self.old now (answer_of reply)) }
