@@ -1,5 +1,5 @@
 -- What an actor always keeps, and how a decision that may return an error agrees with the definitions.
-use Rattle.std.specs.Prelude.{Err, List, None, Ok, Option, Result, Some, [], length, max, ℕ, ◌<◌, ◌≡◌, ◌≤◌, ◌∷◌, Bool, ◌+◌}
+use Rattle.std.specs.Prelude.{Err, List, None, Ok, Option, Result, Some, [], length, max, ℕ, ◌<◌, ◌≡◌, ◌≤◌, ◌∷◌, Bool, ◌+◌, ◌++◌}
 use Rattle.sim_actor.specs.declared.life.LastAct.{LastAct as OwnStage}
 use Rattle.sim_actor.specs.declared.life.LastAct.TheVariants as own
 use Rattle.sim_actor.specs.declared.replies.FollowUp.{FollowUp}
@@ -176,6 +176,14 @@ begins_service messages c now a = begins a c now (drawn_service messages c a.dra
 abbrev pub IsFailure : ConsumerSettings → Got → List Got → Bool → Bool → Type 0
 IsFailure c first held by_chance result =
     (others : List Got) → held ≡ first ∷ others → result ≡ fails c (at_stake c.serving c.whole first others) by_chance
+
+-- a consumer that got the first messages of a batch, and may gather others from now on
+abbrev pub first_gathered : List Got → ConsumerSettings → ℕ → Actor → Actor
+first_gathered gots c now a = record a { held = gots; done = []; failed = []; ends = now + c.gather }
+
+-- one that got others for it
+abbrev pub more_gathered : List Got → Actor → Actor
+more_gathered gots a = record a { held = a.held ++ gots }
 
 -- an actor that wakes after a time that is drawn
 abbrev pub wakes_by : Distribution → ℕ → Actor → Actor

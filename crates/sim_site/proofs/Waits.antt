@@ -38,8 +38,7 @@ wake_waits a c now gs h = service_waits now a c.wait c.forward (consumer_wake a 
 got_waits : (held : List Got) (a : Actor) (c : ConsumerSettings) (now : ℕ) (gs : List Got) → WaitsShortly (got_more held a c now gs).0
 got_waits [] a c now [] = tt
 got_waits [] a c now (g ∷ gs) = tt
-got_waits (h ∷ hs) a c now [] = tt
-got_waits (h ∷ hs) a c now (g ∷ gs) = tt
+got_waits (h ∷ hs) a c now gs = tt
 
 failed_waits : (a : Actor) (c : ConsumerSettings) (now : ℕ) (gs : List Got) → WaitsShortly (has_failed a c now gs).0
 failed_waits a c now [] = tt

@@ -16,7 +16,7 @@ use Rattle.sqs_model.specs.declared.agents.Role.{Role}
 use Rattle.sqs_model.specs.declared.agents.Role.TheVariants.{Consumer, Producer, Script}
 use Rattle.sqs_model.specs.declared.agents.Serving.{Serving}
 use Rattle.sqs_model.specs.declared.agents.Serving.TheVariants.{Each, Once}
-use Rattle.sqs_model.specs.Actor.{Actor, Asked, Beat, Ended, Failed, Gathered, LastAct, Served, act_of, after_failure, at_stake, begins_next, consumer_told, consumer_wake, ends_drawn, ends_service, ends_well, ends_whole, failing_at, fails, gathers_on, goes_on, got_more, is_gathered, is_gathering, woken, has_come, has_failed, next, next_as, producer_sent, producer_wake, rests, script_wake, served_all, serves, serves_on, serving, settles}
+use Rattle.sqs_model.specs.Actor.{Actor, Asked, Beat, Ended, Failed, Gathered, LastAct, Served, act_of, after_failure, at_stake, begins_next, consumer_told, consumer_wake, ends_drawn, ends_service, ends_well, ends_whole, failing_at, fails, gathers_on, goes_on, got_more, is_gathered, is_gathering, woken, has_come, has_failed, next, next_as, producer_sent, producer_wake, rest_after, rests, script_wake, served_all, serves, serves_on, serving, settles}
 use Rattle.sqs_model.specs.Draw.{Draws, drawn_chance}
 use Rattle.sqs_model.proofs.Branches.{either}
 use Rattle.sqs_laws.proofs.Giving.{AreKnown, IsKnown}
@@ -134,8 +134,7 @@ module _ (site arrivals : ℕ) where
     got_acts : (held : List Got) (a : Actor) (c : ConsumerSettings) (gs : List Got) → AreKnown site arrivals held → IsInformed a → AreKnown site arrivals gs → Acts (got_more held a c now gs)
     got_acts [] a c [] l h k = record { informed = with_lists _ h.held h.done h.failed; serves = tt }
     got_acts [] a c (g ∷ gs) l h k = gathers_acts (record a { held = g ∷ gs; done = []; failed = []; ends = now + c.gather }) c 0 (with_lists _ k tt tt)
-    got_acts (x ∷ xs) a c [] l h k = gathers_acts a c c.idle h
-    got_acts (x ∷ xs) a c (g ∷ gs) l h k = gathers_acts (record a { held = x ∷ xs ++ g ∷ gs }) c 0 (with_lists _ (known_append (x ∷ xs) (g ∷ gs) l k) h.done h.failed)
+    got_acts (x ∷ xs) a c gs l h k = gathers_acts (record a { held = x ∷ xs ++ gs }) c (rest_after c.idle gs) (with_lists _ (known_append (x ∷ xs) gs l k) h.done h.failed)
 
     failed_acts : (a : Actor) (c : ConsumerSettings) (gs : List Got) → IsInformed a → AreKnown site arrivals gs → Acts (has_failed a c now gs)
     failed_acts a c [] h k = serving_acts a c a.held h h.held

@@ -16,7 +16,7 @@ use Rattle.sqs_model.specs.declared.agents.Serving.{Serving}
 use Rattle.sqs_model.specs.declared.agents.Serving.TheVariants.{Each, Once}
 use Rattle.sqs_redrive.specs.declared.answers.Got.{Got}
 use Rattle.sqs_redrive.specs.declared.transfers.Outbound.{Outbound}
-use Rattle.sqs_model.specs.Actor.{Actor, Asked, Beat, Ended, Failed, Gathered, Served, LastAct, asks_again, begins_first, begins_next, consumer_told, consumer_wake, first_at, gathers_on, got_more, has_come, has_failed, idle, in_service, is_gathered, next, next_as, next_beat, producer_sent, producer_wake, script_wake, service_of, serving, wakes_after, woken}
+use Rattle.sqs_model.specs.Actor.{Actor, Asked, Beat, Ended, Failed, Gathered, Served, LastAct, asks_again, begins_first, begins_next, consumer_told, consumer_wake, first_at, gathers_on, got_more, has_come, has_failed, idle, in_service, is_gathered, next, next_as, next_beat, producer_sent, producer_wake, rest_after, script_wake, service_of, serving, wakes_after, woken}
 use Rattle.sqs_model.specs.Draw.{Draws, drawn_time}
 use Rattle.sqs_model.specs.Progress.{Ascends, IsSoundActor, IsSoundDistribution, IsSoundForward, IsSoundRole, WakesFor}
 use Rattle.sqs_model.proofs.Counts.{ascends_lower}
@@ -183,8 +183,7 @@ module _ (now : ℕ) (w : Weight now) where
   consumer_got_steps : (c : ConsumerSettings) (a : Actor) (held gs : List Got) → IsSoundRole (Consumer c) → Steps now w 0 (Consumer c) a (got_more held a c now gs)
   consumer_got_steps c a [] [] s = idle_steps c a s.1
   consumer_got_steps c a [] (g ∷ gs) s = gathers_steps c a (record a { held = g ∷ gs; done = []; failed = []; ends = now + c.gather }) 0 refl refl
-  consumer_got_steps c a (h ∷ hs) [] s = gathers_steps c a a c.idle refl refl
-  consumer_got_steps c a (h ∷ hs) (g ∷ gs) s = gathers_steps c a (record a { held = h ∷ hs ++ g ∷ gs }) 0 refl refl
+  consumer_got_steps c a (h ∷ hs) gs s = gathers_steps c a (record a { held = h ∷ hs ++ gs }) (rest_after c.idle gs) refl refl
 
   failed_steps : (c : ConsumerSettings) (a : Actor) (gs : List Got) → Steps now w 0 (Consumer c) a (has_failed a c now gs)
   failed_steps c a [] = serving_steps c a a.held

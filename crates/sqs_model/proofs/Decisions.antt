@@ -15,7 +15,7 @@ use Rattle.sqs_model.specs.declared.agents.Role.{Role}
 use Rattle.sqs_model.specs.declared.agents.Role.TheVariants.{Consumer, Producer, Script}
 use Rattle.sqs_model.specs.declared.agents.Serving.{Serving}
 use Rattle.sqs_model.specs.declared.agents.Serving.TheVariants.{Each, Once}
-use Rattle.sqs_model.specs.Actor.{Actor, Asked, Beat, Ended, Failed, Gathered, Served, LastAct, backoff_at, begins_next, consumer_told, consumer_wake, gathers_on, got_more, has_come, has_failed, is_gathered, next, next_as, producer_sent, producer_wake, script_wake, serving, wakes_after, woken}
+use Rattle.sqs_model.specs.Actor.{Actor, Asked, Beat, Ended, Failed, Gathered, Served, LastAct, backoff_at, begins_next, consumer_told, consumer_wake, gathers_on, got_more, has_come, has_failed, is_gathered, next, next_as, rest_after, producer_sent, producer_wake, script_wake, serving, wakes_after, woken}
 use Rattle.sqs_model.specs.Draw.{drawn_time}
 use Rattle.sqs_model.proofs.Branches.{either}
 use Rattle.sqs_model.proofs.ConsumerWakes.{IsForwardBy, MayForwardBy, consumer_woke, service_sends}
@@ -93,8 +93,7 @@ module _ (now : ℕ) (a : Actor) where
     got_decides : (held gs : List Got) → Decides now a c.forward (got_more held a c now gs)
     got_decides [] [] = rests c.forward _ refl refl refl (omega arith) refl (omega arith) _ tt
     got_decides [] (g ∷ gs) = gathers_decides (g ∷ gs) [] [] (now + c.gather) 0
-    got_decides (h ∷ hs) [] = gathers_decides a.held a.done a.failed a.ends c.idle
-    got_decides (h ∷ hs) (g ∷ gs) = gathers_decides (h ∷ hs ++ g ∷ gs) a.done a.failed a.ends 0
+    got_decides (h ∷ hs) gs = gathers_decides (h ∷ hs ++ gs) a.done a.failed a.ends (rest_after c.idle gs)
 
     failed_decides : (gs : List Got) → Decides now a c.forward (has_failed a c now gs)
     failed_decides [] = serving_decides a.held

@@ -246,8 +246,7 @@ producer_over more p now x told_by.Other h = either (λ (y : Act × Actor). IsOv
 got_over : (more : Actor → Answer → Type 0) (c : ConsumerSettings) (now : ℕ) (x : Actor) (held gots : List Got) → IsOverAfter more (got_more held x c now gots)
 got_over more c now x [] [] = tt
 got_over more c now x [] (g ∷ gs) = tt
-got_over more c now x (h ∷ hs) [] = tt
-got_over more c now x (h ∷ hs) (g ∷ gs) = tt
+got_over more c now x (h ∷ hs) gs = tt
 
 -- whether a consumer has nothing to delete
 abbrev IsIdle : LastAct → Type 0

@@ -287,7 +287,7 @@ asks_again a now after = max (now + 1) (min a.ends (now + after))
 
 -- whether it gathers no more: it holds a whole batch, its time is over, or it stops before it would ask again
 abbrev pub is_gathered : Actor → ConsumerSettings → ℕ → ℕ → Bool
-is_gathered a c now after = nat_le c.batch (length a.held) || nat_le a.ends now || has_come c.stop (asks_again a now after)
+is_gathered a c now after = (nat_le c.batch (length a.held) || nat_le a.ends now) || has_come c.stop (asks_again a now after)
 
 -- one that holds messages begins to serve them, or wakes after a while to ask for more
 abbrev pub gathers_on : Actor → ConsumerSettings → ℕ → ℕ → Actor
@@ -309,13 +309,17 @@ abbrev pub consumer_wake : Actor → ConsumerSettings → ℕ → List Got → A
 consumer_wake a c now [] = rests a c now a.failed a.done
 consumer_wake a c now (g ∷ gs) = if is_gathering a.last_act then asks_for_more a c now else serves_on a c now g gs
 
+-- how long a consumer that gathers rests after a receive: not at all if it gave messages
+abbrev pub rest_after : ℕ → List Got → ℕ
+rest_after idle [] = idle
+rest_after idle (g ∷ gs) = 0
+
 -- a consumer that got messages, of which it holds none or some, serves or gathers more; without any it rests
 abbrev pub got_more : List Got → Actor → ConsumerSettings → ℕ → List Got → Act × Actor
 got_more [] a c now [] = idle a c now
 got_more [] a c now (g ∷ gs) =
     (acts.Nothing, gathers_on (record a { held = g ∷ gs; done = []; failed = []; ends = now + c.gather }) c now 0)
-got_more (h ∷ hs) a c now [] = (acts.Nothing, gathers_on a c now c.idle)
-got_more (h ∷ hs) a c now (g ∷ gs) = (acts.Nothing, gathers_on (record a { held = h ∷ hs ++ g ∷ gs }) c now 0)
+got_more (h ∷ hs) a c now gs = (acts.Nothing, gathers_on (record a { held = h ∷ hs ++ gs }) c now (rest_after c.idle gs))
 
 abbrev pub consumer_got : Actor → ConsumerSettings → ℕ → List Got → Act × Actor
 consumer_got a c now gots = got_more a.held a c now gots

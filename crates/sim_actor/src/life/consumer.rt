@@ -13,7 +13,6 @@ ghost use Rattle.sim_actor.specs.Lives.{Becomes, Changes, Decides, DecidesAt, Do
 use super::failing::{failing, fails};
 use super::gathering::is_gathering;
 use super::{LastAct, Life, has_come};
-use crate::holding::Holding;
 use crate::replies::FollowUp;
 use sim_clock::Refusal;
 use sim_draw::Draws;
@@ -453,21 +452,13 @@ impl Life {
     {
         let messages = batch.into_vec();
         if self.holding.first().is_some() {
-            let after = if messages.is_empty() {
-                consumer.idle
-            } else {
-                0
-            };
-            self.holding.append(messages)?;
-            return self.gather(consumer, now, after);
+            return self.gather_more(consumer, now, messages);
         }
         if messages.is_empty() {
             self.idle(consumer, now);
             return Ok(());
         }
-        self.holding = Holding::of(messages);
-        self.ends = now + consumer.gather;
-        self.gather(consumer, now, 0)
+        self.gather_first(consumer, now, messages)
     }
 
     // After a refused receive it waits, after a service that ended well it deletes the message, and

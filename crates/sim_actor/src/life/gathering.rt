@@ -1,14 +1,16 @@
 //! How a consumer gathers messages before it serves them.
-ghost use Rattle.std.specs.Prelude.{◌≡◌, ◌≤◌};
+ghost use Rattle.std.specs.Prelude.{◌≡◌, ◌≤◌, ◌||◌, nat_le};
 ghost use Rattle.sqs_model.specs.declared.agents.ActorSettings.{ActorSettings};
-ghost use Rattle.sqs_model.specs.Actor.{asks_again as the_asks_again, asks_for_more as the_asks_for_more, gathers_on, is_gathered as the_is_gathered, is_gathering as the_is_gathering};
+ghost use Rattle.sqs_model.specs.Actor.{asks_again as the_asks_again, asks_for_more as the_asks_for_more, gathers_on, is_gathered as the_is_gathered, is_gathering as the_is_gathering, rest_after as the_rest_after};
 ghost use Rattle.sqs_model.specs.Answers.{most_count};
 ghost use Rattle.sqs_model.specs.Valid.{IsConsumer};
-ghost use Rattle.sim_actor.specs.Lives.{DoesNothing, Lives, last_act_of, lived};
+ghost use Rattle.sim_actor.specs.Lives.{DoesNothing, Lives, first_gathered, last_act_of, lived, more_gathered};
 
 use super::{LastAct, Life, has_come};
+use crate::holding::Holding;
 use sim_clock::Refusal;
 use sqs_model::{Act, ConsumerSettings};
+use sqs_redrive::Got;
 
 /// The most messages that one service may be of: no queue has more in flight.
 const MOST_SERVED: u64 = 120_000;
@@ -22,6 +24,21 @@ pub(crate) fn is_gathering(last_act: LastAct) -> bool
         LastAct::Asked | LastAct::Served(_) | LastAct::Ended | LastAct::Failed | LastAct::Beat =>
             false,
     }
+}
+
+// How long a consumer that gathers rests after a receive that gave these messages.
+fn rest_after(idle: u64, messages: &[Got]) -> u64
+    ensures after { result ≡ the_rest_after idle messages.now }
+    ensures most { result ≤ idle }
+{
+    if messages.is_empty() { idle } else { 0 }
+}
+
+// Whether messages are a whole batch, or the time to gather them is over.
+fn is_ready(held: u64, batch: u64, ends: u64, now: u64) -> bool
+    ensures { result ≡ (nat_le batch held || nat_le ends now) }
+{
+    held >= batch || ends <= now
 }
 
 impl Life {
@@ -42,9 +59,11 @@ impl Life {
         ensures { (s : ActorSettings) → result ≡ the_is_gathered (lived s self.now) consumer.now
             now after }
     {
-        self.holding.held_count() as u64 >= consumer.batch
-            || self.ends <= now
-            || has_come(consumer.stop, self.asks_again(now, after))
+        let held = self.holding.held_count() as u64;
+        if is_ready(held, consumer.batch, self.ends, now) {
+            return true;
+        }
+        has_come(consumer.stop, self.asks_again(now, after))
     }
 
     // Begins to serve the messages that it holds, or wakes after a while to ask for more. Returns
@@ -73,6 +92,47 @@ impl Life {
         }
         self.last_act = LastAct::Ended;
         self.begin(consumer, now, messages)
+    }
+
+    // Takes the first messages of a batch, and begins to serve them or gathers more.
+    pub(crate) fn gather_first(
+        &mut self,
+        consumer: &ConsumerSettings,
+        now: u64,
+        messages: Vec<Got>,
+    ) -> Result<(), Refusal>
+        requires moment { now ≤ most_count }
+        requires consumer { IsConsumer consumer.now }
+        ensures decision { Lives DoesNothing result self.old self.new (λ a. (
+          Act.Nothing,
+          gathers_on (first_gathered messages.items consumer.now now a) consumer.now now 0,
+        )) }
+        ensures framed { self.new.number ≡ self.old.number }
+    {
+        self.holding = Holding::of(messages);
+        self.ends = now + consumer.gather;
+        self.gather(consumer, now, 0)
+    }
+
+    // Takes what a receive gave while it gathers, and begins to serve all or gathers more.
+    pub(crate) fn gather_more(
+        &mut self,
+        consumer: &ConsumerSettings,
+        now: u64,
+        messages: Vec<Got>,
+    ) -> Result<(), Refusal>
+        requires moment { now ≤ most_count }
+        requires consumer { IsConsumer consumer.now }
+        ensures decision { Lives DoesNothing result self.old self.new (λ a. (
+          Act.Nothing,
+          gathers_on (more_gathered messages.items a) consumer.now now
+              (the_rest_after consumer.now.idle messages.items),
+        )) }
+        ensures framed { self.new.number ≡ self.old.number }
+    {
+        let after = rest_after(consumer.idle, messages.as_slice());
+        self.holding.append(messages)?;
+        self.gather(consumer, now, after)
     }
 
     // Asks for the messages that its batch lacks, and waits no longer than it gathers.

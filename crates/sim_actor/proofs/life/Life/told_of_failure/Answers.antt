@@ -6,6 +6,11 @@ use Rattle.sim_actor.proofs.life.Life.told_of_failure.Goals as goal
 pub returns-in-Some-clause-decision : goal.returns-in-Some-clause-decision
 returns-in-Some-clause-decision c s = rw (← c.self.view_is, c.in-Some.ensures) (c.in_ok-timeout.ensures.decision s)
 
+pub returns-in_err-timeout-clause-decision : goal.returns-in_err-timeout-clause-decision
+returns-in_err-timeout-clause-decision c s =
+    let timeout = c.in_err-timeout.ensures.decision s in
+    rw (← c.self.view_is, c.in-Some.ensures) (search rules)
+
 pub returns-in_err-serve_held-clause-decision : goal.returns-in_err-serve_held-clause-decision
 returns-in_err-serve_held-clause-decision c s =
     let none = c.in_default.ensures in
