@@ -56,13 +56,13 @@ from typing import Any, NamedTuple
 
 from .console import Fault, Parser, check_output, note, print_text, shown, write_text
 from .queues import NAME, json_in, read_any
+from .records import PLAIN_NUMBER, column_of, records_in
 from .scenarios import text_of_string
-from .scripts import AT_MOST, BODY_MOST, BYTES_MOST, FIELD_LIMIT, HEADER, RECORDS_MOST
+from .scripts import AT_MOST, BODY_MOST, BYTES_MOST, HEADER, RECORDS_MOST
 from .units import NUMBER, UNITS, quantity
 
 SENDS_MOST = 5_000_000
 RATE = re.compile(rf"({NUMBER})/({'|'.join(sorted(UNITS, key=len, reverse=True))})")
-PLAIN_NUMBER = re.compile(r"-?[0-9]{1,15}(?:\.[0-9]{1,12})?")
 CALENDAR = re.compile(r"[0-9]{4}-[0-9]{2}-[0-9]{2}(?:$|[T ][0-9:.+Z-]{1,30}$)")
 DAY, HOUR = 86_400_000, 3_600_000
 SIDE_BY_SIDE_MOST = 1_000
@@ -139,23 +139,6 @@ def counted_from(times: Sequence[Fraction], origin: str | None, unit: int) -> li
     if min(times) < start:
         raise Fault(f"a time is before the origin {origin}")
     return [time - start for time in times]
-
-
-def records_in(path: str) -> list[list[str]]:
-    csv.field_size_limit(FIELD_LIMIT)
-    try:
-        records = [record for record in csv.reader(io.StringIO(read_any(path), newline=""), strict=True) if record]
-    except csv.Error as error:
-        raise Fault(f"{path} is not CSV: {error}") from None
-    if not records:
-        raise Fault(f"{path} has no times")
-    return records
-
-
-def column_of(header: Sequence[str], name: str, path: str) -> int:
-    if name not in header:
-        raise Fault(f"{path} has no column {shown(name)}; it has {', '.join(map(shown, header))}")
-    return header.index(name)
 
 
 def times_of_file(options: Namespace) -> list[Arrival]:
