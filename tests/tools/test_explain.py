@@ -156,6 +156,31 @@ REASONS_OF_3 = (
               "has 1 to 128 bytes of 0x21 to 0x7E, and the weight has 1 to 1,000,000."),
     (NEW + "service = [[0, 5]]\n", "14 OutOfRange at actor[0].service", "9:11",
      "service of the consumer packer has 1 item. It has 2 to 32 pairs [permille, ms]."))
+# Actors by name, kind and keys, and what is printed of their loads. What comes from the queue paid is left out.
+EACH_200_MS = ("shop", "producer", "count = 9\ngap_min_ms = 100\ngap_max_ms = 300\n")
+SENT_TO = "orders: {} messages a second are sent, and what comes from paid is left out"
+BUSY = "{}: a service takes {} ms on average; the load of the {} of orders is {} %"
+LOADS = (
+    ([EACH_200_MS], []),
+    ([EACH_200_MS, ("p", "consumer", "copies = 2\nservice = [[0, 100], [1000, 401]]\n")],
+     [SENT_TO.format("5.00"), BUSY.format("p", "250.0", "2 consumers", "62.5")]),
+    # 5 messages a second, of which one consumer serves 2.5 and the other 10
+    ([EACH_200_MS, ("p", "consumer", "service_min_ms = 300\nservice_max_ms = 500\n"),
+      ("q", "consumer", "service = [[0, 100], [1000, 100]]\nfail_permille = 500\n")],
+     [SENT_TO.format("5.00"), BUSY.format("p", "400.0", "2 consumers", "40.0"),
+      BUSY.format("q", "100.0", "2 consumers", "40.0")]),
+    # two sends in half a second, one that has no span, and one producer that sends once
+    ([("a", "script", 'script = "two.csv"\n'), ("b", "script", 'calls = "at,call\\n7,send\\n"\n'),
+      ("c", "producer", "count = 1\ngap_min_ms = 1\ngap_max_ms = 1\n"),
+      ("p", "consumer", "service_min_ms = 230\nservice_max_ms = 230\n")],
+     [SENT_TO.format("4.00"), BUSY.format("p", "230.0", "only consumer", "92.0"),
+      "orders: over 90 %, so ages depend on how long the run is"]),
+    ([("shop", "producer", "count = 9\ngap = [[0, 1], [500, 100], [1000, 101]]\n"),
+      ("p", "consumer", 'service_min_ms = 450\nservice_max_ms = 550\nbatch_service = "once"\nbatch = 5\n'
+                        "service_each_ms = 50\n")],
+     # a mean gap of half of 50 (1 to 99) and half of 100, and a batch of five in 750 ms
+     [SENT_TO.format("13.33"), BUSY.format("p", "150.0", "only consumer", "200.0"),
+      "orders: over 100 %, so it grows without end while messages come like this"]))
 explain = module_of("explain")
 
 
@@ -184,6 +209,18 @@ class Explain(ToolCase):
                 lines = self.explained(text, f"refused {refusal}").splitlines()
                 self.assertEqual((lines[0], lines[-1]), (f"s.toml:{place}: refused {refusal}", reason))
                 self.assertEqual(lines[2].index("^") - 1, int(place.split(":")[1]))
+
+    def test_loads(self):
+        """The rate of sends, by the mean service and the number of consumers; further tries do not count."""
+        self.write("program", STAND_IN.replace('echo "$REFUSAL" >&2\nexit 1', "echo ok"))
+        self.write("two.csv", "at,call,body\n0,send,a\n5,receive,\n500,send,b\n")
+        for tables, lines in LOADS:
+            actors = "".join(f'[[actor]]\nname = "{name}"\nkind = "{kind}"\nqueue = "orders"\n{rest}'
+                             for name, kind, rest in tables)
+            self.write("s.toml", f'{NEW[:NEW.index("[[actor]]")]}{PAID}dead_letter = "orders"\n{actors}')
+            with self.subTest(tables=tables):
+                self.assertEqual(self.run_tool("explain", "s.toml", SQS_REHEARSE=self.program),
+                                 (0, "".join(f"{line}\n" for line in ("ok", *lines)), ""))
 
     def test_version_3_is_asked_for(self):
         """--preview is the program's word, before the folder of scripts."""
