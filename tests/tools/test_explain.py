@@ -2,11 +2,9 @@
 import contextlib
 import io
 import os
-import subprocess
-import sys
 import unittest
 
-from tool import PROGRAM, ROOT, TOOLS, ToolCase, module_of, needs_program
+from tool import ROOT, TOOLS, ToolCase, module_of, needs_program, text_at
 from rehearse_tools.console import toml_of
 from rehearse_tools.positions import Positions
 from stored_cases import REFUSED, put, stored
@@ -185,10 +183,7 @@ explain = module_of("explain")
 
 
 class Explain(ToolCase):
-    def setUp(self):
-        super().setUp()
-        self.program = self.write("program", STAND_IN)
-        os.chmod(self.program, 0o755)
+    stand_in = STAND_IN
 
     def explained(self, text, refusal, *words):
         """What is printed of a scenario that is refused so."""
@@ -265,8 +260,7 @@ class Explain(ToolCase):
     def test_texts_of_other_kinds(self):
         for data in (b"\x00\xff", b"", b"a = " + b"[" * 9_000, b"a = " + b"1" * 9_000, b"\xef\xbb\xbfa", b"\r\n\r\n=",
                      b'"\\uD800" = 1'):
-            with open(self.path("s.toml"), "wb") as file:
-                file.write(data)
+            self.write("s.toml", data)
             ran = self.run_tool("explain", "s.toml", SQS_REHEARSE=self.program, REFUSAL="refused 10 NotToml")
             self.assertEqual((ran[0], ran[2]), (1, ""))
             self.assertGreater(len(ran[1].splitlines()), 1)
@@ -301,11 +295,11 @@ class Explain(ToolCase):
     def test_a_good_scenario_and_the_example_of_the_documents(self):
         example = os.path.join(ROOT, "examples", "first.toml")
         self.assertEqual(self.run_tool("explain", example), (0, "ok queues=1 actors=1 tasks=0 least=60001\n", ""))
-        with open(example, "rb") as file, open(os.path.join(TOOLS, "README.md"), encoding="utf-8") as document:
-            data, text = file.read().replace(b"visibility_s = 5", b"visibility_s = 50000"), document.read()
-        run = subprocess.run([sys.executable, os.path.join(TOOLS, "explain"), "-"], input=data, capture_output=True,
-                             env={**os.environ, "SQS_REHEARSE": PROGRAM})
-        self.assertIn(f"```\n{run.stdout.decode()}```\n", text)
+        text = text_at(TOOLS, "README.md")
+        data = text_at(example).replace("visibility_s = 5", "visibility_s = 50000").encode()
+        self.assertIn(f"```\n{self.run_tool('explain', '-', stdin=data)[1]}```\n", text)
+        example = os.path.join(ROOT, "examples", "dead_letters.toml")
+        self.assertIn(f"```\n$ tools/explain examples/dead_letters.toml\n{self.output('explain', example)}```\n", text)
 
 
 def paths_in(value, path=()):

@@ -1,13 +1,11 @@
 """Tests tools/quantiles: what the program draws by its tables, and means of times whose law is known."""
 import itertools
 import math
-import os
 import random
 import statistics
-import subprocess
 import unittest
 
-from tool import PROGRAM, TOOLS, ToolCase, module_of, needs_program
+from tool import TOOLS, ToolCase, module_of, needs_program, printed, text_at
 from rehearse_tools.console import toml_of
 
 quantiles = module_of("quantiles")
@@ -26,8 +24,7 @@ def drawn(pairs, count=10_000):
 class Quantiles(ToolCase):
     def made(self, *words, times=(), key="service"):
         """The pairs that are printed, and the lines of comments behind them."""
-        status, out, err = self.run_tool("quantiles", *words, stdin="\n".join(map(str, times)).encode())
-        self.assertEqual((status, err), (0, ""))
+        out = self.output("quantiles", *words, stdin="\n".join(map(str, times)).encode())
         pairs, (permilles, column) = toml_of(out)[key], zip(*toml_of(out)[key])
         self.assertEqual((permilles[0], permilles[-1], sorted(set(permilles))), (0, 1_000, list(permilles)))
         self.assertTrue(len(pairs) <= 32 and 1 <= column[0] and list(column) == sorted(column), pairs)
@@ -45,7 +42,7 @@ class Quantiles(ToolCase):
         """Of each value as many are drawn as there are, but for a permille on each side of it."""
         for times in ([5], [10, 1000], [1, 1, 2], range(1, 10), range(80, 121), [120] * 50, [3] * 9 + [4]):
             pairs, lines = self.made("-", times=times)
-            self.assertEqual(lines[:2], [f"# Times: {len(times)} of -",
+            self.assertEqual(lines[:2], [f"# Times: {len(times)} of standard input",
                                          f"# Mean of the times: {statistics.fmean(times):,.2f} ms"])
             found = drawn(pairs)
             for value in set(times):
@@ -108,7 +105,7 @@ class Quantiles(ToolCase):
 
     def test_faults(self):
         path, empty = self.write("t.csv", "ms\n12\n0.5\n"), self.write("empty", "\n\n")
-        for words, line in (
+        self.assert_faults("quantiles", (
                 ((empty,), f"{empty} has no times"), (("none",), "cannot read none: No such file or directory"),
                 ((self.write("header", "ms\n"), "--column", "ms"), f"{self.path('header')} has no times"),
                 ((path,), f"{path}: record 1 is no time in milliseconds: ms"),
@@ -132,9 +129,7 @@ class Quantiles(ToolCase):
                  "--pairs is 8 to 32, and 3 more than the quantiles that are given"),
                 (("--p100", "12", "--p99", "900"), "unrecognized arguments: --p100 (--help tells the usage)"),
                 (("--p50", "12", "--key", "time"), "argument --key: invalid choice: 'time' (choose from 'service', "
-                                                   "'gap') (--help tells the usage)")):
-            with self.subTest(words=words):
-                self.assert_fault(self.run_tool("quantiles", *words), f"quantiles: {line}")
+                                                   "'gap') (--help tells the usage)")))
 
     @needs_program
     def test_what_is_made_runs(self):
@@ -143,12 +138,10 @@ class Quantiles(ToolCase):
             out = self.run_tool("quantiles", *words, stdin="\n".join(map(str, times)).encode())[1]
             path = self.write("s.toml", 'version = 3\nhorizon = 9\n[[queue]]\nname = "q"\n[[actor]]\nname = "c"\n'
                                         f'kind = "consumer"\nqueue = "q"\n{out}idle_ms = 5\n')
-            run = subprocess.run([PROGRAM, "check", "--preview", path], capture_output=True, text=True)
-            self.assertEqual((run.returncode, run.stderr), (0, ""))
+            self.assertEqual(printed("check", "--preview", path), "ok queues=1 actors=1 tasks=0 least=10\n")
 
     def test_example_of_the_documents(self):
-        with open(os.path.join(TOOLS, "README.md"), encoding="utf-8") as file:
-            text = file.read()
+        text = text_at(TOOLS, "README.md")
         words = "--p50", "120", "--p99", "900", "--max", "5000", "--pairs", "9"
         self.assertIn(f"$ tools/quantiles {' '.join(words)}\n{self.run_tool('quantiles', *words)[1]}", text)
 

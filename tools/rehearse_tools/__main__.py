@@ -13,8 +13,8 @@ from typing import cast
 
 from .console import Fault, Parser, ended, print_text, shown
 
-TOOLS = ("arrivals", "explain", "from-plan", "from-queue", "life", "metrics", "picture", "quantiles", "report", "summary",
-         "sweep")
+TOOLS = ("arrivals", "explain", "from-plan", "from-queue", "life", "metrics", "picture", "quantiles", "report",
+         "summary", "sweep")
 
 
 def main_of(name: str) -> Callable[[Sequence[str]], int]:

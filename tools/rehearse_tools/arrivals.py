@@ -327,8 +327,11 @@ def write_scripts(records: list[list[Any]], options: Namespace) -> None:
     print_text("\n".join(tables))
 
 
-# What a column of a file of times may have besides.
-OF_TIMES = "bodies", "group-ids", "deduplication-ids"
+# The options of each kind that take a text, and those that take a number.
+OPTIONS: dict[str, tuple[tuple[str, ...], dict[str, int | None]]] = {
+    "times": (("--column", "--bodies", "--group-ids", "--deduplication-ids", "--unit"), {}),
+    "metric": (("--id",), {"--period": 60}), "poisson": (("--rate", "--duration"), {}),
+    "bursts": (("--every", "--over", "--duration"), {"--size": None}), "hours": (("--numbers", "--duration"), {})}
 # What makes the times of each kind; a file of times has whole messages.
 KINDS: dict[str, Callable[[Namespace], list[Any]]] = {
     "times": times_of_file, "metric": times_of_metric, "poisson": times_of_poisson, "bursts": times_of_bursts,
@@ -344,22 +347,10 @@ def options_of(words: Sequence[str]) -> Namespace:
         if name in ("times", "metric"):
             kind.add_argument("file", nargs="?", metavar="FILE")
             kind.add_argument("--origin")
-        for option in {"times": ("column", *OF_TIMES), "metric": ("id",)}.get(name, ()):
-            kind.add_argument(f"--{option}")
-        wanted = {"poisson": ("rate",), "bursts": ("every", "over"), "hours": ("numbers",)}
-        for option in (*wanted[name], "duration") if name in wanted else ():
-            kind.add_argument(f"--{option}")
-        if name == "times":
-            kind.add_argument("--unit", default="s")
-        if name == "metric":
-            kind.add_argument("--period", type=int, default=60)
-        if name == "bursts":
-            kind.add_argument("--size", type=int)
-        kind.add_argument("--queue")
-        kind.add_argument("--body", default="message {n}")
-        for option, default in (("groups", 10), ("seed", 0), ("start", 0), ("side-by-side", 1)):
-            kind.add_argument(f"--{option}", type=int, default=default)
-        kind.add_argument("--output")
+        texts, numbers = OPTIONS[name]
+        kind.take("--queue", "--body", "--output", *texts, numbers={
+            "--groups": 10, "--seed": 0, "--start": 0, "--side-by-side": 1, **numbers})
+        kind.set_defaults(body="message {n}", **({"unit": "s"} if name == "times" else {}))
     options = parser.parse_args(words)
     if options.help:
         parser.print_help()

@@ -492,11 +492,8 @@ def checked(program: str, data: bytes, words: Sequence[str]) -> tuple[int, str, 
 
 
 def main(words: Sequence[str]) -> int:
-    parser = Parser(__doc__)
+    parser = Parser(__doc__).take("--scripts", "--program", flags=["--preview"])
     parser.add_argument("scenario", metavar="SCENARIO")
-    parser.add_argument("--preview", action="store_true")
-    parser.add_argument("--scripts", default=".", metavar="DIR")
-    parser.add_argument("--program", metavar="P")
     options = parser.parse_args(words)
     data = read_bytes(options.scenario)
     status, out, err = checked(program_of(options.program), data, reading_words(options))

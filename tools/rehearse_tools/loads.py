@@ -55,8 +55,8 @@ def lines_of_queue(scenario: Mapping[str, Any], queue: str, folder: str) -> list
               f"{f'{count} consumers' if count > 1 else 'only consumer'} of {queue} is {load:,.1f} %"
               for consumer in consumers]
     if load > HIGH:
-        lines.append(f"{queue}: over {FULL} %, so it grows without end while messages come like this" if load > FULL else
-                     f"{queue}: over {HIGH} %, so ages depend on how long the run is")
+        lines.append(f"{queue}: over {FULL} %, so it grows without end while messages come like this"
+                     if load > FULL else f"{queue}: over {HIGH} %, so ages depend on how long the run is")
     return lines
 
 

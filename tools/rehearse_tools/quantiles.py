@@ -64,9 +64,9 @@ def mean_of(pairs: Pairs) -> float:
 
 
 class Times(NamedTuple):
-    """Times by their quantiles at each permille, and the parts of their mean below each permille. As a table's times are
-    rounded down, equal times count as spread over the next millisecond in `quantiles`. At the permilles `given` a table
-    has just these quantiles; `most` is its greatest time."""
+    """Times by their quantiles at each permille, and the parts of their mean below each permille. As a table's times
+    are rounded down, equal times count as spread over the next millisecond in `quantiles`. At the permilles `given` a
+    table has just these quantiles; `most` is its greatest time."""
 
     quantiles: Sequence[float]
     sums: Sequence[float]
@@ -241,7 +241,9 @@ def aimed(times: Times, permilles: Sequence[int]) -> list[float]:
 def table_of(times: Times, count: int) -> list[list[int]]:
     """The table of at most so many pairs whose mean is that of the times, as nearly as whole numbers have it."""
     permilles = permilles_of(times, count)
-    pairs = [[0, int(times.quantiles[0])]]
+    second = times.quantiles[permilles[1]]
+    # the first time makes the mean of the first piece right
+    pairs = [[0, int(min(max(2 * times.mean(0, permilles[1]) + 1 - second, 1), second))]]
     done = 0.0
     for aim, start, end in zip(aimed(times, permilles)[1:-1], permilles, permilles[1:]):
         low, width = pairs[-1][1], end - start
@@ -273,12 +275,9 @@ def ended(pairs: list[list[int]], times: Times) -> list[list[int]]:
 # The command.
 def options_of(words: Sequence[str]) -> tuple[Namespace, dict[str, float]]:
     """The options, and the quantiles by their numbers of a hundred, in order."""
-    parser = Parser(__doc__)
+    parser = Parser(__doc__).take("--column", "--mean", "--max", numbers={"--pairs": PAIRS_MOST})
     parser.add_argument("file", nargs="?", metavar="FILE")
-    for option in ("column", "mean", "max"):
-        parser.add_argument(f"--{option}")
     parser.add_argument("--key", choices=("service", "gap"), default="service")
-    parser.add_argument("--pairs", type=int, default=PAIRS_MOST)
     numbers = {match[1] for word in words if (match := QUANTILE.fullmatch(word)) and float(match[1])}
     for number in numbers:
         parser.add_argument(f"--p{number}", dest=number)
@@ -294,7 +293,8 @@ def of_options(options: Namespace, quantiles: dict[str, float]) -> tuple[Times, 
         if quantiles or mean or most:
             raise Fault("a FILE stands without --pN, --mean and --max (--help tells the usage)")
         times = times_in(options.file, options.column)
-        return of_file(times), f"{len(times):,} of {shown(options.file)}"
+        path = "standard input" if options.file == "-" else shown(options.file)
+        return of_file(times), f"{len(times):,} of {path}"
     if len(quantiles) + (mean is not None) < 2 or not quantiles:
         raise Fault("it takes a FILE, or two of --pN, or one and --mean (--help tells the usage)")
     known = [*((f"--p{number}", time) for number, time in quantiles.items()), *([("--max", most)] if most else [])]
