@@ -54,7 +54,7 @@ SECONDS = {"wrong-bodies": 90, "page": 70, "memory": 60, "questions": 50, "test_
            "groups": 10, "test_poison": 10, "test_summary": 10, "fuzz": 9, "test_decisions": 9, "test_from_plan": 9,
            "run": 8, "test_build": 8, "test_reference": 8, "test_runs": 8, "test_sweeps": 8, "terminal": 10, "bell": 9,
            "types": 7, "test_older": 30, "test_programs": 30, "test_ends": 8, "test_curves": 7, "test_report": 6, "test_settling": 6,
-           "test_sweep": 5, "test_types": 5, "test_arrivals": 4, "test_doors": 4}
+           "test_sweep": 5, "test_types": 5, "test_quantiles": 5, "test_arrivals": 4, "test_doors": 4}
 NOT_QUICK = ("wrong-bodies", "long", "test_clusters", "test_slurm", "test_picture", "memory", "late", "huge",
              "test_console", "test_package", "test_poison", "test_statistics", "test_decisions", "test_helps",
              "test_shown", "test_older", "page")
@@ -337,14 +337,11 @@ def interrupt(number: int, _: object) -> None:
 
 # The command line.
 def options_of(words: Sequence[str]) -> Namespace:
-    reading = Parser(__doc__)
+    reading = Parser(__doc__).take("--late", flags=["--quick"], numbers={
+        "--jobs": len(os.sched_getaffinity(0)), "--beside": 0})
     reading.add_argument("program", nargs="?")
-    reading.add_argument("--quick", action="store_true")
     reading.add_argument("--only", default="")
-    reading.add_argument("--jobs", type=int, default=len(os.sched_getaffinity(0)))
-    reading.add_argument("--late")
     reading.add_argument("--limit", type=float, default=3600)
-    reading.add_argument("--beside", type=int, default=0)
     options = reading.parse_args(words)
     if options.quick and options.only:
         raise Fault("--quick and --only exclude each other")

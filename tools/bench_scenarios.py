@@ -1,7 +1,7 @@
 """The scenarios that tools/bench measures; it imports them, and this is not a command."""
 from __future__ import annotations
 
-from collections.abc import Iterable, Iterator, Mapping
+from collections.abc import Callable, Iterable, Iterator, Mapping
 
 HORIZON_MOST = 2_592_000_000
 # The first line of a script.
@@ -46,8 +46,8 @@ class Scenario:
         return "\n".join(self.lines) + "\n"
 
 
-def one_queue(size: int, _tempo: int) -> Scenario:
-    scenario = Scenario(size * 20 + 60_000)
+def one_queue(size: int, _tempo: int, rest: int = 60_000, **top: int) -> Scenario:
+    scenario = Scenario(size * 20 + rest, **top)
     scenario.queue("q")
     scenario.producer("p", "q", size, 10, 30)
     scenario.consumer("c", "q", 1, 3, batch=10, wait_s=1, fail_permille=20)
@@ -219,14 +219,11 @@ def scripts(size: int, _tempo: int) -> Scenario:
     return scenario
 
 
-def sampled(size: int, _tempo: int) -> Scenario:
-    scenario = Scenario(size * 20 + 1_000, sample=1)
-    scenario.queue("q")
-    scenario.producer("p", "q", size, 10, 30)
-    scenario.consumer("c", "q", 1, 3, batch=10, wait_s=1, fail_permille=20)
-    return scenario
+def sampled(size: int, tempo: int) -> Scenario:
+    return one_queue(size, tempo, 1_000, sample=1)
 
 
-MAKERS = {"one": one_queue, "many": many_consumers, "fifo": fifo_queue, "hot": hot_groups, "ring": ring_of_queues,
-          "net": net_of_queues, "chain": chains_of_queues, "fan": fan_of_queues, "flight": all_in_flight,
-          "backlog": backlog, "delay": delayed, "scripts": scripts, "sample": sampled, "quiet": quiet_queues}
+MAKERS: dict[str, Callable[..., Scenario]] = {
+    "one": one_queue, "many": many_consumers, "fifo": fifo_queue, "hot": hot_groups, "ring": ring_of_queues,
+    "net": net_of_queues, "chain": chains_of_queues, "fan": fan_of_queues, "flight": all_in_flight, "backlog": backlog,
+    "delay": delayed, "scripts": scripts, "sample": sampled, "quiet": quiet_queues}

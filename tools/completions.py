@@ -11,7 +11,7 @@ import helps
 # Words and options by their kinds; those of None take nothing.
 Words = defaultdict[Optional[str], set[str]]
 
-OPTION = re.compile(r"(?<![\w-])(--[a-z][a-z-]*)(?: ([^\s\[\]]+))?")
+OPTION = re.compile(r"(?<![\w-])(--[a-z][a-z0-9-]*)(?: ([^\s\[\]]+))?")
 # What an option takes as prose names it; and what stands for a file.
 STANDS_FOR = re.compile(r"[A-Z]+(\.[a-z]+)?")
 OF_FILES = re.compile(r"FILE|P|.*\.[a-z]+")

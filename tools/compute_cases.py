@@ -125,12 +125,10 @@ def lemma(case: Case, number: int, most: int) -> str | None:
 
 
 def main(words: Sequence[str]) -> int:
-    parser = Parser(__doc__)
+    parser = Parser(__doc__).take("--only", "--but", numbers={"--most": 10**9})
+    parser.set_defaults(only="", but="")
     parser.add_argument("out", metavar="OUT.antt")
     parser.add_argument("folders", nargs="+", metavar="FOLDER")
-    parser.add_argument("--only", default="", metavar="WORD")
-    parser.add_argument("--but", default="", metavar="NAME")
-    parser.add_argument("--most", type=int, default=10**9, metavar="ROWS")
     options = parser.parse_args(words)
     check_output(options.out)
     cases = [(number, case) for number, folder in enumerate(options.folders) for case in cases_at(folder)]

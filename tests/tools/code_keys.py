@@ -5,7 +5,7 @@ import os
 import re
 from collections.abc import Iterator
 
-from tool import ROOT
+from tool import ROOT, text_at
 from rehearse_tools.keys import (ITEMS, NUMBER, NUMBERS, QUANTILES, REQUIRED, STRETCHES, TABLES, TEXT, TRUTH, WEIGHTS,
                                  Key)
 
@@ -37,8 +37,7 @@ SHARED = {"latency": "queues.rt", "stopping": "producers.rt", "outages": "outage
 
 def functions(file: str) -> dict[str, str]:
     """The bodies of the functions in a file of the reader. Methods of a trait are named as `Queues::read`."""
-    with open(os.path.join(SOURCES, file), encoding="utf-8") as source:
-        text = source.read()
+    text = text_at(SOURCES, file)
     found, owner = {}, ""
     for match in FUNCTION.finditer(text):
         indent, name, type_ = match.groups()
@@ -87,16 +86,14 @@ def key_of(how: str, name: str, type_: str, bounds: str | None, text: str | None
 
 def pairs_in(file: str) -> tuple[int | None, int | None]:
     """How many pairs the list has that a file reads."""
-    with open(os.path.join(SOURCES, file), encoding="utf-8") as source:
-        pairs = PAIRS.search(source.read())
+    pairs = PAIRS.search(text_at(SOURCES, file))
     assert pairs
     return number(pairs[1]), number(pairs[2])
 
 
 def times_of(quantiles: str, low: str, high: str) -> Iterator[Key]:
     """The keys of a time: quantiles, or two bounds."""
-    with open(os.path.join(SOURCES, "distributions.rt"), encoding="utf-8") as file:
-        most = TIME.search(file.read())
+    most = TIME.search(text_at(SOURCES, "distributions.rt"))
     assert most
     yield Key(quantiles, QUANTILES, *pairs_in("distributions.rt"))
     yield Key(low, NUMBER, 1, number(most[1]), REQUIRED)
@@ -131,16 +128,11 @@ def code_keys(file: str, function: str) -> list[Key]:
 
 def constant(file: str, name: str) -> int | None:
     """A number that a file has by this name."""
-    with open(os.path.join(SOURCES, file), encoding="utf-8") as source:
-        found = re.search(rf"const {name}: u64 = ([\d_]+);", source.read())
+    found = re.search(rf"const {name}: u64 = ([\d_]+);", text_at(SOURCES, file))
     return number(found[1]) if found else None
 
 
 def listed_keys(*files: str) -> set[str]:
     """The keys that the tables of some files may have, as they are listed there."""
-    found: set[str] = set()
-    for file in files:
-        with open(os.path.join(SOURCES, file), encoding="utf-8") as source:
-            found.update(name for match in LIST.finditer(source.read())
-                         for name in re.findall(r'"(\w+)"', match.group(1)))
-    return found
+    return {name for file in files for match in LIST.finditer(text_at(SOURCES, file))
+            for name in re.findall(r'"(\w+)"', match.group(1))}

@@ -71,7 +71,7 @@ class Small(ToolCase):
         self.environment.pop("SQS_REHEARSE", None)
 
     def write_script(self, name, text):
-        os.chmod(self.write(name, text), 0o755)
+        self.script(name, text)
         return self.path(name)
 
     def part(self, name, text):

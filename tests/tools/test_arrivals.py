@@ -4,10 +4,9 @@ import io
 import json
 import os
 import re
-import subprocess
 import unittest
 
-from tool import PROGRAM, TOOLS, ToolCase, needs_program
+from tool import TOOLS, ToolCase, needs_program, printed, text_at
 
 HEADER = "at,call,body,group,id,delay,receipt,max,wait,timeout,task\n"
 MINUTE = 60_000
@@ -20,8 +19,7 @@ METRIC = {"MetricDataResults": [
 class Arrivals(ToolCase):
     def made(self, *words):
         """The records of the script that is made, which ascend strictly."""
-        status, out, err = self.run_tool("arrivals", *words)
-        self.assertEqual((status, err), (0, ""))
+        out = self.output("arrivals", *words)
         self.assertTrue(out.startswith(HEADER))
         records = list(csv.DictReader(io.StringIO(out)))
         times = [int(record["at"]) for record in records]
@@ -170,7 +168,7 @@ class Arrivals(ToolCase):
     def test_faults(self):
         times = self.write("t.csv", "when\n1\n")
         metric = self.write("m.json", json.dumps(METRIC))
-        for words, line in (
+        self.assert_faults("arrivals", (
                 (("poisson", "--rate", "5", "--duration", "1s"), "5 is no rate, as 5/s or 300/min"),
                 (("poisson", "--rate", "0/s", "--duration", "1s"), "0/s is no rate, as 5/s or 300/min"),
                 (("poisson", "--rate", "5/s", "--duration", "9"),
@@ -199,9 +197,7 @@ class Arrivals(ToolCase):
                 (("times", times, "--start", "4294967295", "--output", "t.csv/x"),
                  "cannot write t.csv/x: Not a directory"),
                 (("metric", metric), f"{metric} has 2 results, of which --id names one: sent, other"),
-                (("metric", metric, "--id", "sent", "--period", "0"), "a period has 1 to 86400 seconds")):
-            with self.subTest(words=words):
-                self.assert_fault(self.run_tool("arrivals", *words), f"arrivals: {line}")
+                (("metric", metric, "--id", "sent", "--period", "0"), "a period has 1 to 86400 seconds")))
 
     def test_files_of_other_kinds(self):
         for data in (b"", b"\n\n", b"\x00\xff", bytes(range(256)), b"when\n", b"1\nx\n", b'1\n"2', b"1" * 5_000,
@@ -210,8 +206,7 @@ class Arrivals(ToolCase):
                      b'{"Datapoints": [{"Timestamp": "1", "Sum": 1e999}]}',
                      b'{"MetricDataResults": [{"Timestamps": ["2024-05-01"], "Values": []}]}',
                      b'{"MetricDataResults": [{"Timestamps": ["2024-05-01"], "Values": ["1"]}]}'):
-            with open(self.path("given"), "wb") as file:
-                file.write(data)
+            self.write("given", data)
             for kind in ("times", "metric"):
                 with self.subTest(data=data[:40], kind=kind):
                     status, out, err = self.run_tool("arrivals", kind, "given")
@@ -226,17 +221,14 @@ class Arrivals(ToolCase):
                                               "--duration", "30s", "--queue", queue, "--output", "a.csv")
             self.assertEqual(status, 0)
             scenario = self.write("s.toml", f'{top}[[queue]]\nname = "{queue}"\n{actors}')
-            run = subprocess.run([PROGRAM, "run", "--scripts", self.folder, "--log", os.devnull, scenario],
-                                 capture_output=True, text=True)
-            self.assertEqual((run.returncode, run.stderr), (0, ""))
-            self.assertIn(f"\nreport,{queue},60,0,", run.stdout)
+            self.assertIn(f"\nreport,{queue},60,0,",
+                          printed("run", "--scripts", self.folder, "--log", os.devnull, scenario))
 
     def test_example_of_the_documents(self):
         words = "bursts", "--size", "2", "--every", "10min", "--over", "5s", "--duration", "20min", "--queue", "orders"
         _, script, _ = self.run_tool("arrivals", *words)
         _, actors, _ = self.run_tool("arrivals", *words, "--output", "orders.csv")
-        with open(os.path.join(TOOLS, "README.md"), encoding="utf-8") as file:
-            text = file.read()
+        text = text_at(TOOLS, "README.md")
         self.assertIn(" ".join(words), text)
         self.assertIn(script, text)
         self.assertIn(actors, text)

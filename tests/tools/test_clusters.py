@@ -103,9 +103,10 @@ class DaskCase(ToolCase):
 
     shared: Cluster | None = None
 
+    scenario_text = SCENARIO
+
     def setUp(self) -> None:
         super().setUp()
-        self.scenario = self.write("s.toml", SCENARIO)
         os.mkdir(self.path("scripts"))
         self.write("scripts/calls.csv", CALLS)
 

@@ -11,7 +11,7 @@ import unittest
 from typing import Any
 
 from test_runs import OVERLOADED, random_scenario
-from tool import LOG_HEADER, PROGRAM, ToolCase, ended, needs_program
+from tool import HEADER, PROGRAM, ToolCase, ended, needs_program, printed
 from rehearse_tools.figures import COLUMNS as OF_FIGURES
 from rehearse_tools.figures import Figures
 from rehearse_tools.requirements import Requirement
@@ -37,7 +37,6 @@ ROWS = f"""100,a,shop,send,new,m-0-0,,{MD5}
 6000,a,w,receive,empty,,,
 9000,a,shop,send,new,m-0-3,,{MD5}
 """
-HEADER = LOG_HEADER.decode()
 TEXT = ended(HEADER + ROWS, "final,a,m-0-3,o-0-3,visible,,9000,0,,x\n")
 
 
@@ -103,8 +102,7 @@ class ByHand(ToolCase):
         columns = [f"{kind}_age_p{percent}_ms" for kind in ("new", "moved") for percent in (50, 95)]
         for words, ages in (((), [2_500, 2_500, 2_000, 2_000]), (("--from", "5010"), [None, None, 2_000, 2_000]),
                             (("--to", "5010"), [None] * 4)):
-            status, out, err = self.run_tool("summary", path, "--json", "--queue", "a", *words)
-            self.assertEqual((status, err), (0, ""))
+            out = self.output("summary", path, "--json", "--queue", "a", *words)
             queue, = json.loads(out)["runs"][0]["queues"]
             self.assertEqual([queue[column] for column in columns], ages)
         self.assertIn("   age of moved ones, 95 %           2.00 s\n", self.run_tool("summary", path)[1])
@@ -162,8 +160,7 @@ class Random(ToolCase):
         for seed in range(40):
             text = random_scenario(seed)
             ran = run([str(PROGRAM), "run"], text, None, figures=Figures(0, 90_000, {}, 100_000))
-            log = subprocess.run([str(PROGRAM), "run", "--quiet"], input=text, capture_output=True, text=True).stdout
-            summary, = read_runs([self.write("run.out", log)], Reading())
+            summary, = read_runs([self.write("run.out", printed("run", "--quiet", text=text))], Reading())
             for name, *texts in ran.records or []:
                 numbers, values = dict(zip(ALL_COLUMNS, texts)), summary.queues[name].values()
                 with self.subTest(seed=seed, queue=name):
@@ -181,9 +178,7 @@ class Random(ToolCase):
 
 @needs_program
 class Sweeps(ToolCase):
-    def setUp(self) -> None:
-        super().setUp()
-        self.scenario = self.write("s.toml", OVERLOADED)
+    scenario_text = OVERLOADED
 
     def sweep(self, *words: str) -> tuple[int, str, str]:
         return self.run_tool("sweep", self.scenario, *words)

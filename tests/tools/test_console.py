@@ -10,7 +10,7 @@ import time
 import unittest
 from unittest import mock
 
-from tool import LIMIT, LOG_HEADER, ROOT, SENT, TOOLS, USERS_TOOLS, ToolCase, ended, read_whole
+from tool import LIMIT, LOG_HEADER, ROOT, SENT, TOOLS, USERS_TOOLS, ToolCase, ended, options_in, read_whole
 import helps
 from rehearse_tools.console import Fault, check_output, with_commands, write_text
 
@@ -29,8 +29,7 @@ class Ends(ToolCase):
     def test_help_and_unknown_words(self):
         for name in (*TAKING_TOOLS, *OTHER_TOOLS):
             with self.subTest(tool=name):
-                status, out, err = self.run_tool(name, "--help")
-                self.assertEqual((status, err), (0, ""))
+                out = self.output(name, "--help")
                 hostile = [(b"--nothing",), (b"\xff",), (b"--nothing", b"\xff\n")]
                 if name in TAKING_TOOLS:
                     self.assertIn(f"tools/{name} ", out)
@@ -43,8 +42,7 @@ class Ends(ToolCase):
         """No line has over 120 columns, by either command."""
         for name in (*TAKING_TOOLS, *OTHER_TOOLS):
             with self.subTest(tool=name):
-                with open(helps.source_of(name), encoding="utf-8") as file:
-                    options = re.findall(r'add_argument\("(--[a-z-]+)"', file.read())
+                options = options_in(helps.source_of(name))
                 told = self.run_tool(name, "--help")[1]
                 options += ["--horizon", "--latency", "--output"] if name in ("from-queue", "from-plan") else []
                 self.assertEqual([option for option in options if option not in told], [])
@@ -236,7 +234,7 @@ class Outputs(ToolCase):
             self.write(name, name)
         for name in ("s.toml", "o.toml"):
             self.write(name, 'version = 1\nhorizon = 9\n[[queue]]\nname = "q"\n[[actor]]\nscript = "a.csv"\n')
-        os.chmod(self.write("program", "#!/bin/sh\n"), 0o755)
+        self.script("program", "#!/bin/sh\n")
         os.link(self.path("s.toml"), self.path("linked"))
         os.symlink("a.csv", self.path("led.svg"))
 

@@ -153,8 +153,7 @@ class Curves(Readable):
         self.assert_fault(self.run_tool("picture", "--sweep", "none", *column),
                           "picture: cannot read none: No such file or directory")
         for data in (b"\xff", b"\x00" * 9, b'"' * 10, b"a,failed,queue,sends\r1,,q,1\n"):
-            with open(self.path("rows.csv"), "wb") as file:
-                file.write(data)
+            self.write("rows.csv", data)
             status, out, err = self.run_tool("picture", "--sweep", "rows.csv", *column)
             self.assertEqual((status, out, len(err.splitlines())), (2, "", 1), err)
 

@@ -25,11 +25,7 @@ SEEDS = "--vary", "seed=1..100", "--spread", "seed", "--columns", "sends"
 
 
 class Decisions(ToolCase):
-    def setUp(self) -> None:
-        super().setUp()
-        self.scenario = self.write("s.toml", SCENARIO)
-        self.program = self.write("program", PROGRAM_TEXT)
-        os.chmod(self.program, 0o755)
+    scenario_text, stand_in = SCENARIO, PROGRAM_TEXT
 
     def sweep(self, *words: str) -> tuple[int, str, str]:
         return self.run_tool("sweep", self.scenario, *words, SQS_REHEARSE=self.program)

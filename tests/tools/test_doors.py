@@ -6,16 +6,14 @@ import hashlib
 import io
 import json
 import random
-import subprocess
 import unittest
 
-from tool import PROGRAM, ToolCase, needs_program
+from tool import HEADER, ToolCase, needs_program, printed, text_at
 from rehearse_tools.doors import Doors
 from rehearse_tools.logs import Rows
 from rehearse_tools.replay import ignored
 from rehearse_tools.runs import Output
 
-HEADER = "at,queue,agent,call,answer,message,receipt,detail\n"
 # m-0-0 is dead-lettered to d, moved back as m-0-1, and forwarded to b, where it is deleted 9.2 s after it was sent.
 CHAIN = HEADER + """100,a,shop,send,new,m-0-0,,x
 150,a,w,receive,ok,m-0-0,r-0-0-1,o-0-0
@@ -133,8 +131,7 @@ class ByHand(ToolCase):
 
     def test_summary(self) -> None:
         path = self.write("run.log", CHAIN)
-        status, out, err = self.run_tool("summary", path, "--door", "--queue", "b")
-        self.assertEqual((status, err), (0, ""))
+        out = self.output("summary", path, "--door", "--queue", "b")
         self.assertIn("   age since first send, 95 %        9.20 s\n", out)
         queue, = json.loads(self.run_tool("summary", path, "--door", "--queue", "b", "--json")[1])["runs"][0]["queues"]
         self.assertEqual((queue["door_age_p95_ms"], queue["door_age_open"]), (9_200, 0))
@@ -208,9 +205,8 @@ class Random(unittest.TestCase):
         """The checksum of each message that is left in b tells which one it was, and so when it was sent."""
         known = wrong = 0
         for seed in range(60):
-            run = subprocess.run([str(PROGRAM), "run", "--quiet"], input=chain(seed), capture_output=True, text=True)
-            self.assertEqual(run.returncode, 0, run.stderr)
-            records, doors = list(csv.reader(io.StringIO(run.stdout))), doors_of(run.stdout)
+            run = printed("run", "--quiet", text=chain(seed))
+            records, doors = list(csv.reader(io.StringIO(run))), doors_of(run)
             sent = {record[7]: int(record[0]) for record in records if record[3:5] == ["send", "new"]}
             self.assertEqual(len(sent), 200)
             self.assertIn(hashlib.md5(b"0").hexdigest(), sent)
@@ -267,11 +263,9 @@ class Sweeps(ToolCase):
             self.assertEqual(bool(err), bool(word), bound)
         self.assertEqual(self.run_tool("report", scenario, "--require", "b.door_age_max>=11s", "--output", "r.html"),
                          (0, "", ""))
-        with open(self.path("r.html"), encoding="utf-8") as file:
-            self.assertIn("<td>also with the 1 that are left and the 22 that may still come (56.1 %)</td>", file.read())
-        log = subprocess.run([str(PROGRAM), "run", scenario], capture_output=True, check=True).stdout
-        self.assertIn("\n     may still come                      22\n",
-                      self.run_tool("summary", "-", "--door", "--queue", "b", stdin=log)[1])
+        self.assertIn("<td>also with the 1 that are left and the 22 that may still come (56.1 %)</td>", text_at(self.path("r.html")))
+        told = self.run_tool("summary", "-", "--door", "--queue", "b", stdin=printed("run", scenario).encode())[1]
+        self.assertIn("\n     may still come                      22\n", told)
 
     def test_a_way_that_no_message_went(self) -> None:
         """The scenario has a way from c to b by a dead-letter queue and its task, which the log does not show."""

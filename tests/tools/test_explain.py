@@ -2,11 +2,9 @@
 import contextlib
 import io
 import os
-import subprocess
-import sys
 import unittest
 
-from tool import PROGRAM, ROOT, TOOLS, ToolCase, module_of, needs_program
+from tool import ROOT, TOOLS, ToolCase, module_of, needs_program, text_at
 from rehearse_tools.console import toml_of
 from rehearse_tools.positions import Positions
 from stored_cases import REFUSED, put, stored
@@ -179,14 +177,36 @@ REASONS_OF_3 = (
               "has 1 to 128 bytes of 0x21 to 0x7E, and the weight has 1 to 1,000,000."),
     (NEW + "service = [[0, 5]]\n", "14 OutOfRange at actor[0].service", "9:11",
      "service of the consumer packer has 1 item. It has 2 to 32 pairs [permille, ms]."))
+# Actors by name, kind and keys, and what is printed of their loads. What comes from the queue paid is left out.
+EACH_200_MS = ("shop", "producer", "count = 9\ngap_min_ms = 100\ngap_max_ms = 300\n")
+SENT_TO = "orders: {} messages a second are sent, and what comes from paid is left out"
+BUSY = "{}: a service takes {} ms on average; the load of the {} of orders is {} %"
+LOADS = (
+    ([EACH_200_MS], []),
+    ([EACH_200_MS, ("p", "consumer", "copies = 2\nservice = [[0, 100], [1000, 401]]\n")],
+     [SENT_TO.format("5.00"), BUSY.format("p", "250.0", "2 consumers", "62.5")]),
+    # 5 messages a second, of which one consumer serves 2.5 and the other 10
+    ([EACH_200_MS, ("p", "consumer", "service_min_ms = 300\nservice_max_ms = 500\n"),
+      ("q", "consumer", "service = [[0, 100], [1000, 100]]\nfail_permille = 500\n")],
+     [SENT_TO.format("5.00"), BUSY.format("p", "400.0", "2 consumers", "40.0"),
+      BUSY.format("q", "100.0", "2 consumers", "40.0")]),
+    # two sends in half a second, one that has no span, and one producer that sends once
+    ([("a", "script", 'script = "two.csv"\n'), ("b", "script", 'calls = "at,call\\n7,send\\n"\n'),
+      ("c", "producer", "count = 1\ngap_min_ms = 1\ngap_max_ms = 1\n"),
+      ("p", "consumer", "service_min_ms = 230\nservice_max_ms = 230\n")],
+     [SENT_TO.format("4.00"), BUSY.format("p", "230.0", "only consumer", "92.0"),
+      "orders: over 90 %, so ages depend on how long the run is"]),
+    ([("shop", "producer", "count = 9\ngap = [[0, 1], [500, 100], [1000, 101]]\n"),
+      ("p", "consumer", 'service_min_ms = 450\nservice_max_ms = 550\nbatch_service = "once"\nbatch = 5\n'
+                        "service_each_ms = 50\n")],
+     # a mean gap of half of 50 (1 to 99) and half of 100, and a batch of five in 750 ms
+     [SENT_TO.format("13.33"), BUSY.format("p", "150.0", "only consumer", "200.0"),
+      "orders: over 100 %, so it grows without end while messages come like this"]))
 explain = module_of("explain")
 
 
 class Explain(ToolCase):
-    def setUp(self):
-        super().setUp()
-        self.program = self.write("program", STAND_IN)
-        os.chmod(self.program, 0o755)
+    stand_in = STAND_IN
 
     def explained(self, text, refusal, *words):
         """What is printed of a scenario that is refused so."""
@@ -207,6 +227,18 @@ class Explain(ToolCase):
                 lines = self.explained(text, f"refused {refusal}").splitlines()
                 self.assertEqual((lines[0], lines[-1]), (f"s.toml:{place}: refused {refusal}", reason))
                 self.assertEqual(lines[2].index("^") - 1, int(place.split(":")[1]))
+
+    def test_loads(self):
+        """The rate of sends, by the mean service and the number of consumers; further tries do not count."""
+        self.write("program", STAND_IN.replace('echo "$REFUSAL" >&2\nexit 1', "echo ok"))
+        self.write("two.csv", "at,call,body\n0,send,a\n5,receive,\n500,send,b\n")
+        for tables, lines in LOADS:
+            actors = "".join(f'[[actor]]\nname = "{name}"\nkind = "{kind}"\nqueue = "orders"\n{rest}'
+                             for name, kind, rest in tables)
+            self.write("s.toml", f'{NEW[:NEW.index("[[actor]]")]}{PAID}dead_letter = "orders"\n{actors}')
+            with self.subTest(tables=tables):
+                self.assertEqual(self.run_tool("explain", "s.toml", SQS_REHEARSE=self.program),
+                                 (0, "".join(f"{line}\n" for line in ("ok", *lines)), ""))
 
     def test_version_3_is_asked_for(self):
         """--preview is the program's word, before the folder of scripts."""
@@ -251,8 +283,7 @@ class Explain(ToolCase):
     def test_texts_of_other_kinds(self):
         for data in (b"\x00\xff", b"", b"a = " + b"[" * 9_000, b"a = " + b"1" * 9_000, b"\xef\xbb\xbfa", b"\r\n\r\n=",
                      b'"\\uD800" = 1'):
-            with open(self.path("s.toml"), "wb") as file:
-                file.write(data)
+            self.write("s.toml", data)
             ran = self.run_tool("explain", "s.toml", SQS_REHEARSE=self.program, REFUSAL="refused 10 NotToml")
             self.assertEqual((ran[0], ran[2]), (1, ""))
             self.assertGreater(len(ran[1].splitlines()), 1)
@@ -287,11 +318,11 @@ class Explain(ToolCase):
     def test_a_good_scenario_and_the_example_of_the_documents(self):
         example = os.path.join(ROOT, "examples", "first.toml")
         self.assertEqual(self.run_tool("explain", example), (0, "ok queues=1 actors=1 tasks=0 least=60001\n", ""))
-        with open(example, "rb") as file, open(os.path.join(TOOLS, "README.md"), encoding="utf-8") as document:
-            data, text = file.read().replace(b"visibility_s = 5", b"visibility_s = 50000"), document.read()
-        run = subprocess.run([sys.executable, os.path.join(TOOLS, "explain"), "-"], input=data, capture_output=True,
-                             env={**os.environ, "SQS_REHEARSE": PROGRAM})
-        self.assertIn(f"```\n{run.stdout.decode()}```\n", text)
+        text = text_at(TOOLS, "README.md")
+        data = text_at(example).replace("visibility_s = 5", "visibility_s = 50000").encode()
+        self.assertIn(f"```\n{self.run_tool('explain', '-', stdin=data)[1]}```\n", text)
+        example = os.path.join(ROOT, "examples", "dead_letters.toml")
+        self.assertIn(f"```\n$ tools/explain examples/dead_letters.toml\n{self.output('explain', example)}```\n", text)
 
 
 def paths_in(value, path=()):

@@ -12,7 +12,7 @@ import unittest
 
 from test_runs import random_scenario
 from test_summary import LOG, PARTS
-from tool import PROGRAM, ROOT, ToolCase, needs_program
+from tool import PROGRAM, ROOT, ToolCase, needs_program, printed, text_at
 from rehearse_tools import runs
 from rehearse_tools.figures import AGES, COLUMNS, OF_QUEUE, Figures
 from rehearse_tools.scenarios import consumers_of, names_of, parsed
@@ -132,9 +132,9 @@ class Readers(ToolCase):
         scenario = self.write("s.toml", SCENARIO)
         ran = []
         for words in ([], ["--figures"], ["--from", "9000"]):
-            done = subprocess.run([str(PROGRAM), "run", *words, scenario], capture_output=True, text=True, check=True)
-            self.assertEqual("\nfigure,of,name,value\n" in done.stdout, bool(words))
-            self.write("run.txt", done.stdout)
+            done = printed("run", *words, scenario)
+            self.assertEqual("\nfigure,of,name,value\n" in done, bool(words))
+            self.write("run.txt", done)
             ran.append(self.run_tool("summary", "run.txt"))
         self.assertEqual(ran, [ran[0]] * 3)
 
@@ -187,9 +187,7 @@ class ByHand(unittest.TestCase):
 
 @needs_program
 class Sweeps(ToolCase):
-    def setUp(self) -> None:
-        super().setUp()
-        self.scenario = self.write("s.toml", SCENARIO)
+    scenario_text = SCENARIO
 
     def rows(self, *words: str) -> list[list[str]]:
         status, out, _ = self.run_tool("sweep", self.scenario, *words)
@@ -213,8 +211,7 @@ class Sweeps(ToolCase):
         for words in (NAMES, f"sends,{NAMES}", f"{NAMES},requests", f"{NAMES},door_age_p95", "sends"):
             for more in ((), ("--from", "2s")):
                 self.rows("--columns", words, *more, "--program", path)
-                with open(self.path("asked"), encoding="utf-8") as file:
-                    asked.append(file.read().splitlines()[-1].partition(" --scripts ")[2].partition(" ")[2])
+                asked.append(text_at(self.path("asked")).splitlines()[-1].partition(" --scripts ")[2].partition(" ")[2])
         whole, later = (f"--figures --from {first} --window-figures 300000" for first in (0, 2000))
         self.assertEqual(asked, [f"{whole} --log /dev/null", later] * 3 + [whole, later, "--log /dev/null", ""])
 

@@ -9,7 +9,7 @@ import subprocess
 import sys
 import unittest
 
-from tool import PROGRAM, ROOT, TOOLS, ToolCase, module_of, needs_program
+from tool import PROGRAM, ROOT, TOOLS, ToolCase, module_of, needs_program, printed, text_at
 from rehearse_tools.console import Fault, toml_of
 
 ARN = "arn:aws:sqs:eu-central-1:123456789012:"
@@ -358,8 +358,8 @@ class FromPlan(ToolCase):
         self.assertEqual(scenario["actor"], without["actor"])
         if PROGRAM:
             self.write("s.toml", out)
-            told = subprocess.run([PROGRAM, "check", "--preview", self.path("s.toml")], capture_output=True, text=True)
-            self.assertEqual(told.stdout + told.stderr, "ok queues=4 actors=12 tasks=0 least=100\n")
+            self.assertEqual(printed("check", "--preview", self.path("s.toml")),
+                             "ok queues=4 actors=12 tasks=0 least=100\n")
 
     def test_a_policy_that_cannot_be_placed(self):
         """Standard error names it, and the queues are made without it."""
@@ -447,8 +447,7 @@ class FromPlan(ToolCase):
                      b'{"Resources": {"A": {"Type": ["AWS::SQS::Queue"]}}}',
                      b'{"Resources": {"A": {"Type": "AWS::Serverless::Function", "Properties": {"Events": {"E": 1}}}}}',
                      b"Resources: {A: {Type: 'AWS::SQS::Queue', Properties: {DelaySeconds: [1]}}}"):
-            with open(self.path("given"), "wb") as file:
-                file.write(data)
+            self.write("given", data)
             with self.subTest(data=data[:40]):
                 status, out, err = self.run_tool("from-plan", "given")
                 self.assertEqual((status, out, len(err.splitlines())), (2, "", 1), err)
@@ -471,8 +470,7 @@ class FromPlan(ToolCase):
         self.assertGreater(ends.count(0), 150)
 
     def text_of(self, name):
-        with open(os.path.join(HERE, "plans", name), encoding="utf-8") as file:
-            return file.read()
+        return text_at(HERE, "plans", name)
 
     def test_without_its_library(self):
         """If the library is missing, the error names its package; JSON needs none."""
@@ -489,12 +487,10 @@ class FromPlan(ToolCase):
                                  f"python3-yaml has it for Debian's python3, and {wanted} installs it\n")
 
     def test_example_of_the_documents(self):
-        with open(os.path.join(TOOLS, "README.md"), encoding="utf-8") as file:
-            text = file.read()
+        text = text_at(TOOLS, "README.md")
         start = text.index("Resources:\n")
         template = text[start:text.index("```", start)]
-        with open(os.path.join(ROOT, "examples", "template.yaml"), encoding="utf-8") as file:
-            self.assertEqual(file.read(), template)
+        self.assertEqual(text_at(ROOT, "examples", "template.yaml"), template)
         made = self.made(template)
         self.assertIn("```\n" + made[1:made.index("\n[[queue]]", 2)] + "```\n", text)
 
@@ -502,10 +498,8 @@ class FromPlan(ToolCase):
     def test_what_is_made_runs(self):
         for text in (json.dumps(PLAN), TEMPLATE):
             self.assertEqual(self.run_tool("from-plan", self.write("given", text), "--output", "s.toml")[0], 0)
-            run = subprocess.run([PROGRAM, "run", "--log", os.devnull, self.path("s.toml")], capture_output=True,
-                                 text=True)
-            self.assertEqual((run.returncode, run.stderr), (0, ""))
-            sends = [line.split(",")[1:3] for line in run.stdout.splitlines() if line.startswith("report,")][1:]
+            run = printed("run", "--log", os.devnull, self.path("s.toml"))
+            sends = [line.split(",")[1:3] for line in run.splitlines() if line.startswith("report,")][1:]
             # Each queue that takes no dead letters is sent a message a second, all through the hour.
             self.assertEqual([3_500 <= int(count) <= 3_600 or count for _, count in sends], [True, "0", True, "0"])
 
@@ -516,8 +510,7 @@ class FromPlan(ToolCase):
         plan = {"planned_values": {"root_module": {"resources": values}}}
         path = self.write("given", json.dumps(plan))
         self.assertEqual(self.run_tool("from-plan", path, "--output", "s.toml")[0], 0)
-        check = subprocess.run([PROGRAM, "check", self.path("s.toml")], capture_output=True, text=True)
-        self.assertEqual(check.stdout, "ok queues=12 actors=24 tasks=0 least=3600001\n")
+        self.assertEqual(printed("check", self.path("s.toml")), "ok queues=12 actors=24 tasks=0 least=3600001\n")
 
 
 if __name__ == "__main__":

@@ -1,10 +1,9 @@
 """Tests tools/from-queue on attributes as SQS gives them."""
 import json
 import os
-import subprocess
 import unittest
 
-from tool import PROGRAM, ToolCase, needs_program
+from tool import ToolCase, needs_program, printed, text_at
 from rehearse_tools.console import toml_of
 
 ARN = "arn:aws:sqs:eu-central-1:123456789012:"
@@ -90,9 +89,8 @@ class FromQueue(ToolCase):
         status, out, err = self.run_tool("from-queue", path, "--depth", "--horizon", "1000", "--output", "s.toml")
         self.assertEqual((status, out), (0, ""))
         self.assertIn("from-queue: orders: its 3 messages in flight are left out: ", err)
-        run = subprocess.run([PROGRAM, "run", "--log", os.devnull, self.path("s.toml")], capture_output=True, text=True)
-        self.assertEqual((run.returncode, run.stderr), (0, ""))
-        records = [line.split(",") for line in run.stdout.splitlines() if line.startswith("report,")]
+        run = printed("run", "--log", os.devnull, self.path("s.toml"))
+        records = [line.split(",") for line in run.splitlines() if line.startswith("report,")]
         report = dict(zip(records[0], next(record for record in records if record[1] == "orders")))
         self.assertEqual([report[key] for key in ("sends", "visible", "delayed")], ["2508", "2501", "7"])
         with open(self.path("s.toml"), "rb") as file:
@@ -115,8 +113,7 @@ class FromQueue(ToolCase):
         status, out, err = self.run_tool("from-queue", *files, "--latency", "7", "--horizon", "60000",
                                          "--output", "both.toml")
         self.assertEqual((status, out), (0, ""))
-        with open(self.path("both.toml"), encoding="utf-8") as file:
-            text = file.read()
+        text = text_at(self.path("both.toml"))
         self.assertIn("horizon = 60000 ", text)
         self.assertIn("latency_ms = 7\n", text)
         self.assertIn('name = "failed"\nvisibility_s = 30\ndelay_s = 0\nretention_s = 1209600\n', text)
@@ -170,8 +167,7 @@ class FromQueue(ToolCase):
     def test_files_that_are_no_attributes(self):
         for data in (b"", b"{", b"\x00\xff\xfe", bytes(range(256)), b"[" * 100_000, b"\xff\xfe{",
                      b'{"Attributes": 1' + b"0" * 9_000, b"at,queue,agent,call\n"):
-            with open(self.path("no.json"), "wb") as file:
-                file.write(data)
+            self.write("no.json", data)
             status, out, err = self.run_tool("from-queue", "no.json")
             self.assertEqual((status, out, len(err.splitlines())), (2, "", 1), err)
 
@@ -199,8 +195,7 @@ class FromQueue(ToolCase):
         url = "https://sqs.eu-central-1.amazonaws.com/123456789012/pay.fifo"
         files = self.file("orders.json", ORDERS), self.file("pay.json", PAYMENTS, QueueUrl=url)
         self.assertEqual(self.run_tool("from-queue", *files, "--output", "s.toml")[0], 0)
-        check = subprocess.run([PROGRAM, "check", self.path("s.toml")], capture_output=True, text=True)
-        self.assertEqual((check.stdout, check.stderr), ("ok queues=3 actors=0 tasks=0 least=100\n", ""))
+        self.assertEqual(printed("check", self.path("s.toml")), "ok queues=3 actors=0 tasks=0 least=100\n")
 
 
 if __name__ == "__main__":

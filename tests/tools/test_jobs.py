@@ -6,7 +6,7 @@ import sys
 import unittest
 
 from test_sweep import COLUMNS, SCENARIO, STAND_IN
-from tool import LIMIT, TOOLS, ToolCase, wait_for
+from tool import LIMIT, TOOLS, ToolCase, text_at, wait_for
 from rehearse_tools.results import Head, result_text
 
 
@@ -32,7 +32,7 @@ class Mixed(ToolCase):
         super().setUp()
         self.write("s.toml", SCENARIO.replace('[[queue]]\nname = "r"\n', "") + ACTOR)
         self.write("sends.csv", "1\n")
-        os.chmod(self.write("program", OF_SCRIPT), 0o755)
+        self.script("program", OF_SCRIPT)
         for name in ("begun", "changed"):
             os.mkfifo(self.path(name))
 
@@ -43,14 +43,11 @@ class Mixed(ToolCase):
         process = subprocess.Popen(command, cwd=self.folder, stdout=subprocess.PIPE, stderr=subprocess.DEVNULL,
                                    text=True)
         self.addCleanup(process.kill)
-        with open(self.path("begun"), encoding="utf-8") as file:
-            file.read()
-        self.write("new", OF_SCRIPT.replace('$(($(wc -l < "$3/sends.csv")))', "777"))
-        os.chmod(self.path("new"), 0o755)
+        text_at(self.path("begun"))
+        self.script("new", OF_SCRIPT.replace('$(($(wc -l < "$3/sends.csv")))', "777"))
         os.replace(self.path("new"), self.path("program"))
         self.write("sends.csv", "1\n2\n3\n")
-        with open(self.path("changed"), "w", encoding="utf-8") as file:
-            file.write("go on\n")
+        self.write("changed", "go on\n")
         out = process.communicate(timeout=60)[0]
         return process.returncode, out
 
@@ -69,11 +66,10 @@ class Mixed(ToolCase):
 
 
 class Jobs(ToolCase):
+    scenario_text, stand_in = SCENARIO, STAND_IN
+
     def setUp(self) -> None:
         super().setUp()
-        self.scenario = self.write("s.toml", SCENARIO)
-        self.program = self.write("program", STAND_IN)
-        os.chmod(self.program, 0o755)
         self.words = self.scenario, "--vary", "queue.q.visibility_s=2", "--vary", "seed=1..6"
         self.results = self.path("results")
 
@@ -230,8 +226,7 @@ class Jobs(ToolCase):
         for job in self.jobs():
             self.run_job(job)
         name = self.files()[2]
-        with open(os.path.join(self.results, name), encoding="utf-8") as file:
-            text = file.read()
+        text = text_at(self.results, name)
         copy = f"6{self.files()[5][1:]}"
         for bad, line in ((text[:-1], "is cut: it has no end mark"), (text[:-80], "is cut: it has no end mark"),
                           (text.replace(",203,", ",20,"), "is not as it was written: its checksum is another")):

@@ -4,9 +4,8 @@ import subprocess
 import sys
 import unittest
 
-from tool import TOOLS, ToolCase, ended, needs_program, open_end
+from tool import HEADER, TOOLS, ToolCase, ended, needs_program, open_end, text_at
 
-HEADER = "at,queue,agent,call,answer,message,receipt,detail\n"
 LOG = HEADER + """0,a,shop,send,new,m-0-0,,900150983cd24fb0d6963f7d28e17f72
 5,a,shop,send,new,m-0-1,,900150983cd24fb0d6963f7d28e17f72
 1000,a,a,release,visible,m-0-0,,
@@ -149,8 +148,7 @@ In the end: expired from f.fifo at 60000 ms
     @needs_program
     def test_story_of_the_documents(self):
         _, out, _ = self.run_tool("life", self.log_of_example("dead_letters.toml"), "o-0-4")
-        with open(os.path.join(TOOLS, "README.md"), encoding="utf-8") as file:
-            self.assertIn(f"```\n{out}```\n", file.read())
+        self.assertIn(f"```\n{out}```\n", text_at(TOOLS, "README.md"))
 
     def test_faults(self):
         log = self.write("log", ended(LOG))

@@ -4,7 +4,7 @@ import re
 import shutil
 import subprocess
 
-from tool import PROGRAM, ToolCase, needs_program
+from tool import PROGRAM, ToolCase, needs_program, printed, text_at
 
 SCENARIO = """version = 1
 horizon = 5
@@ -71,19 +71,16 @@ class Bench(ToolCase):
     @needs_program
     def test_the_program_reads_each_scenario(self):
         for kind in KINDS:
-            status, out, err = self.run_tool("bench", "--scenario", kind, "100")
-            self.assertEqual((status, err), (0, ""))
+            out = self.output("bench", "--scenario", kind, "100")
             self.write(f"{kind}.toml", out)
-            checked = subprocess.run([PROGRAM, "check", self.path(f"{kind}.toml")], capture_output=True, text=True)
-            self.assertEqual((checked.returncode, checked.stderr), (0, ""), kind)
+            printed("check", self.path(f"{kind}.toml"))
 
     def test_faults(self):
         usage = ("a PROGRAM is needed, or --scenario and a KIND; then a SIZE and a TEMPO may follow (--help tells the "
                  "usage)")
         echo = shutil.which("echo")
-        self.write("script", "#!/bin/sh\n")
-        os.chmod(self.path("script"), 0o755)
-        for words, line in (
+        self.script("script", "#!/bin/sh\n")
+        self.assert_faults("bench", (
                 ((), usage), (("",), usage), (("--scenario",), usage), ((echo, "one", "1", "1", "1"), usage),
                 (("none",), "there is no program none"),
                 ((shutil.which("false"),), f"{shutil.which('false')} does not run"),
@@ -97,9 +94,7 @@ class Bench(ToolCase):
                 (("--beside", echo, echo, "one"), f"{echo} makes no log: it is another program"),
                 (("--beside", echo), usage),
                 (("--beside", echo, "--scenario", "one"),
-                 "--scenario prints a scenario, and measures nothing beside another program")):
-            with self.subTest(words=words):
-                self.assert_fault(self.run_tool("bench", *words), f"bench: {line}")
+                 "--scenario prints a scenario, and measures nothing beside another program")))
         status, out, err = self.run_tool("bench", shutil.which("env"), "one", "1")
         self.assertEqual((status, out, len(err.splitlines())), (2, "", 1), err)
         self.assertIn(" ends with status 127: ", err)
@@ -113,11 +108,9 @@ class Bench(ToolCase):
     def test_two_programs_side_by_side(self):
         """Of ten rows: both counts, divided by the rows, and their ratio; and the means over the kinds, all alike."""
         first, second = self.writer("first", 10), self.writer("second", 10)
-        self.write("valgrind", VALGRIND)
-        os.chmod(self.path("valgrind"), 0o755)
+        self.script("valgrind", VALGRIND)
         path = f"{self.path('.')}:{os.environ['PATH']}"
-        status, out, err = self.run_tool("bench", "--beside", second, first, PATH=path)
-        self.assertEqual((status, err), (0, ""))
+        out = self.output("bench", "--beside", second, first, PATH=path)
         head, *lines, means = [line.split() for line in out.splitlines()]
         self.assertEqual(" ".join(head),
                          "kind size rows user seconds instructions a row writes a row mispredicted a row")
@@ -136,8 +129,7 @@ class Bench(ToolCase):
     @needs_program
     def test_a_measurement(self):
         """Ten messages are sent, received and deleted, each with a row of its own at least."""
-        status, out, err = self.run_tool("bench", PROGRAM, "one", "10", PATH="/nowhere")
-        self.assertEqual((status, err), (0, ""))
+        out = self.output("bench", PROGRAM, "one", "10", PATH="/nowhere")
         self.assertGreaterEqual(int(re.fullmatch(r"one +10 +([0-9,]+) rows +[0-9.]+ s\n", out)[1]), 30)
 
 
@@ -149,8 +141,7 @@ class Cases(ToolCase):
         self.write("f.refusals", REFUSALS)
         words = "out.antt", "f.refusals", "cases"
         self.assertEqual(self.run_tool("compute_cases.py", *words), (0, "3 lemmas in out.antt\n", ""))
-        with open(self.path("out.antt"), encoding="utf-8") as file:
-            text = file.read()
+        text = text_at(self.path("out.antt"))
         self.assertIn("""-- f/b.toml\ncase_0_b : shown 0 [] (codes "x\\n\\n")\n    ≡ refused (codes "refused 10 NotToml\\n")\n""",
                       text)
         self.assertIn("""case_0_c : shown 0 [] (codes "y")\n""", text)
@@ -166,8 +157,7 @@ class Cases(ToolCase):
                            (b"", "cases/a.out is not the output of cases/a.toml"),
                            (b"\xff", "cases/a.out is not the output of cases/a.toml")):
             if data is not None:
-                with open(self.path("cases/a.out"), "wb") as file:
-                    file.write(data)
+                self.write("cases/a.out", data)
             self.assert_fault(self.run_tool("compute_cases.py", "out", "cases"), f"compute_cases.py: {line}")
         for name in "none", "none.refusals":
             self.assert_fault(self.run_tool("compute_cases.py", "out", name),

@@ -5,9 +5,8 @@ import subprocess
 import sys
 import unittest
 
-from tool import ROOT, TOOLS, ToolCase, ended, needs_program
+from tool import HEADER, ROOT, TOOLS, ToolCase, ended, needs_program, text_at
 
-HEADER = "at,queue,agent,call,answer,message,receipt,detail\n"
 # In the first minute m-0-0 is sent and received; m-0-1 is sent with a delay that ends in the third minute; a repeat and
 # an empty poll. In the second m-0-0 goes to d, where it arrives in the same minute. In the third m-0-1 becomes visible,
 # and comes as a forward m-1-1 to d. In the fifth m-0-1 is deleted, and deleted again; m-1-0 expires.
@@ -64,8 +63,7 @@ class Metrics(ToolCase):
         log = self.write("log", ended(LOG))
         self.assertEqual(self.run_tool("metrics", log, *END), (0, NAMES + ROWS, ""))
         self.assertEqual(self.run_tool("metrics", log, *END, "--queue", "d", "--output", "d.csv"), (0, "", ""))
-        with open(self.path("d.csv"), encoding="utf-8") as file:
-            self.assertEqual(file.read(), NAMES + "".join(line for line in ROWS.splitlines(True) if ",d," in line))
+        self.assertEqual(text_at(self.path("d.csv")), NAMES + "".join(line for line in ROWS.splitlines(True) if ",d," in line))
 
     def test_from_standard_input(self):
         run = subprocess.run([sys.executable, os.path.join(TOOLS, "metrics"), "-", *END], input=ended(LOG), text=True,
@@ -200,7 +198,7 @@ class Metrics(ToolCase):
         log = self.write("log", ended(LOG))
         alone = self.write("alone", LOG)
         names = NAMES.strip().removeprefix("second,queue,").replace(",", ", ")
-        for words, line in (
+        self.assert_faults("metrics", (
                 (("none",), "cannot read none: No such file or directory"),
                 ((log, "--period", "0"), "a period has 1 to 86400 seconds"),
                 ((log, "--period", "1m"), "argument --period: invalid int value: '1m' (--help tells the usage)"),
@@ -209,9 +207,7 @@ class Metrics(ToolCase):
                 ((log, "--output", "log/x"), "cannot write log/x: Not a directory"),
                 *(((log, "--alarm", text), f"{text} is no alarm, as 'ApproximateAgeOfOldestMessage>300 for 5'; the "
                    f"metrics are {names}") for text in ("Age>3", "NumberOfMessagesSent>", "NumberOfMessagesSent",
-                                                        "NumberOfMessagesSent>1 for 0"))):
-            with self.subTest(words=words):
-                self.assert_fault(self.run_tool("metrics", *words), f"metrics: {line}")
+                                                        "NumberOfMessagesSent>1 for 0"))))
         late = self.write("late", LOG + "9" * 19 + ",a,shop,send,new,m-0-2,,x\n")
         self.assert_fault(self.run_tool("metrics", late), "metrics: 166,666,666,666,667 periods of 2 queues are too "
                           "many: a longer --period is needed")
@@ -227,8 +223,7 @@ class Metrics(ToolCase):
         log = self.log_of_example("dead_letters.toml")
         _, rows, _ = self.run_tool("metrics", log, *SCENARIO, "--queue", "orders")
         _, alarms, _ = self.run_tool("metrics", log, *SCENARIO, "--alarm", ALARM)
-        with open(os.path.join(TOOLS, "README.md"), encoding="utf-8") as file:
-            text = file.read()
+        text = text_at(TOOLS, "README.md")
         for line in rows.splitlines()[:3]:
             fields = line.split(",")
             self.assertIn(f"\n{','.join(fields[:4])}, .. ,{fields[-1]}\n", text)

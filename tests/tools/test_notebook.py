@@ -13,7 +13,7 @@ import threading
 import unittest
 from unittest import mock
 
-from tool import PROGRAM, ROOT, ToolCase, needs_program
+from tool import PROGRAM, ROOT, ToolCase, needs_program, text_at
 from rehearse_tools import notebook
 from rehearse_tools.console import Fault, library
 
@@ -43,8 +43,7 @@ def told(function, *words, **named) -> tuple:
 class Page(ToolCase):
     @needs_pandas
     def test_its_code(self) -> None:
-        with open(os.path.join(ROOT, "docs", "NOTEBOOKS.md"), encoding="utf-8") as file:
-            blocks = re.findall(r"```pycon\n(.*?)```", file.read(), re.DOTALL)
+        blocks = re.findall(r"```pycon\n(.*?)```", text_at(ROOT, "docs", "NOTEBOOKS.md"), re.DOTALL)
         self.assertEqual(len(blocks), 7)
         test = doctest.DocTestParser().get_doctest("\n".join(blocks), {}, "NOTEBOOKS.md", None, None)
         runner = doctest.DocTestRunner(optionflags=doctest.NORMALIZE_WHITESPACE)
@@ -77,8 +76,7 @@ class Lists(ToolCase):
             self.assertEqual([row["sends"] for row in found.report], [row["sent"] for row in found.summary])
 
     def test_a_text_and_settings(self) -> None:
-        with open(SWEPT, encoding="utf-8") as file:
-            text = file.read()
+        text = text_at(SWEPT)
         first = notebook.rehearse(text, {"seed": 5}, as_lists=True)
         self.assertEqual(first, notebook.rehearse(SWEPT, {"seed": 5}, as_lists=True))
         self.assertNotEqual(first.rows, notebook.rehearse(SWEPT, {"seed": 6}, as_lists=True).rows)

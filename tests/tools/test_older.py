@@ -16,7 +16,7 @@ from tool import LIMIT, PROGRAM, ROOT, TOOLS, needs_program
 
 OLDEST = (3, 9)
 # Files of tests/tools that need no library, and are quick.
-TESTS = ("arrivals", "doors", "explain", "from_queue", "life", "metrics", "replay", "results", "runs",
+TESTS = ("arrivals", "doors", "explain", "from_queue", "life", "metrics", "quantiles", "replay", "results", "runs",
          "scenarios", "summary", "units")
 # The lines that import names of some modules.
 NEWER = re.compile(r"^from (__future__|typing|collections\.abc|dataclasses) import (.*)$", re.M)

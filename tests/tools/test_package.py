@@ -14,7 +14,7 @@ import tarfile
 import tempfile
 import unittest
 
-from tool import PROGRAM, ROOT, TOOLS, ToolCase, module_at, needs_program
+from tool import PROGRAM, ROOT, TOOLS, ToolCase, module_at, needs_program, options_in
 import completions
 import debian
 import helps
@@ -45,8 +45,7 @@ second kind  rows of two
 
 class PackageCase(ToolCase):
     def package(self, program):
-        status, out, err = self.run_tool("package", "--program", program, "--output", "made")
-        self.assertEqual((status, err), (0, ""))
+        out = self.output("package", "--program", program, "--output", "made")
         return [self.path(line) for line in out.splitlines()[:2]]
 
     def dpkg(self, *words):
@@ -223,15 +222,12 @@ class Package(PackageCase):
 
     def test_faults(self):
         self.write("file", "")
-        self.write("script", "#!/bin/sh\n")
-        os.chmod(self.path("script"), 0o755)
-        for words, line in (
+        self.script("script", "#!/bin/sh\n")
+        self.assert_faults("package", (
                 (("--program", "/none"), "there is no program /none"),
                 (("--program", "./script"), f"{self.path('script')} is a script, and not the program itself"),
                 (("--program", ECHO, "--output", "file"), "cannot make the folder file: File exists"),
-                (("x",), "unrecognized arguments: x (--help tells the usage)")):
-            with self.subTest(words=words):
-                self.assert_fault(self.run_tool("package", *words), f"package: {line}")
+                (("x",), "unrecognized arguments: x (--help tells the usage)")))
         self.assertEqual(self.run_tool("package", "--program", ECHO, PATH=self.folder)[2],
                          "package: dpkg-deb is missing: Debian's package dpkg has it\n")
 
@@ -284,7 +280,7 @@ class Dist(PackageCase):
         shutil.copytree(TOOLS, self.path("tools"), ignore=shutil.ignore_patterns("__pycache__"))
         for name, text in (("kit/rt", RT), ("tools/sources", SOURCES)):
             os.makedirs(os.path.dirname(self.path(name)), exist_ok=True)
-            os.chmod(self.write(name, text), 0o755)
+            self.script(name, text)
         self.program = self.path("crates/sqs_rehearse/out/sqs_rehearse")
         os.makedirs(os.path.dirname(self.program))
         shutil.copy(ECHO, self.program)
@@ -365,8 +361,7 @@ class Dist(PackageCase):
                                   "anew")
         os.remove(self.program)
         self.assertEqual(fault(), "the program is not built yet: ./sqs_rehearse --build builds it")
-        self.write("script", "#!/bin/sh\n")
-        os.chmod(self.path("script"), 0o755)
+        self.script("script", "#!/bin/sh\n")
         self.assertEqual(fault("--program", "./script"),
                          f"{self.path('script')} is a script, and not the program itself")
 
@@ -488,8 +483,7 @@ class Helps(ToolCase):
     def test_each_option_is_completed(self):
         lines = [["sqs_rehearse", name, "--"] for name in self.tools()[:7]]
         for line, options in zip(lines, completed(self.script, self.folder, lines)):
-            text = pathlib.Path(helps.source_of(line[1])).read_text()
-            self.assertEqual(options, sorted({"--help", *re.findall(r'add_argument\("(--[a-z-]+)"', text)}), line[1])
+            self.assertEqual(options, sorted({"--help", *options_in(helps.source_of(line[1]))}), line[1])
 
 
 if __name__ == "__main__":

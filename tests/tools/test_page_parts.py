@@ -446,8 +446,7 @@ queue = "d"
         """A folder for a server has the page, which says what it is, and its picture; both words go together."""
         page = self.path("public/index.html")
         words = "--module", os.path.join(TOP, "dist", "playground.html"), "--site", self.path("public")
-        status, out, err = self.run_tool("page", *words, "--address", "https://example.org/a&b/")
-        self.assertEqual((status, err), (0, ""))
+        out = self.output("page", *words, "--address", "https://example.org/a&b/")
         self.assertIn("index.html of ", out)
         text = read_text(page)
         for line in ('<meta property="og:image" content="https://example.org/a&amp;b/preview.png">',

@@ -6,7 +6,7 @@ import os
 import re
 import unittest
 
-from tool import ROOT, ToolCase, ended, module_of, needs_program, row_of
+from tool import HEADER, ROOT, ToolCase, ended, module_of, needs_program, row_of, text_at
 from rehearse_tools.console import Fault, library
 from rehearse_tools.logs import Log
 from rehearse_tools.histories import (PLACES, Course, Histories, History, ages_in, counts_in, course_of, levels,
@@ -20,7 +20,6 @@ except Fault:
 needs_numpy = unittest.skipUnless(numpy, "matplotlib is missing, which tools/setup installs")
 picture = module_of("picture")
 
-HEADER = "at,queue,agent,call,answer,message,receipt,detail\n"
 LOG = HEADER + """0,a,shop,send,new,m-0-0,,900150983cd24fb0d6963f7d28e17f72
 5,a,shop,send,new,m-0-1,,900150983cd24fb0d6963f7d28e17f72
 1000,a,a,release,visible,m-0-0,,
@@ -148,8 +147,7 @@ class Counts(ToolCase):
         """What is left, deleted, redriven, moved and expired is what the stored report of each case says."""
         compared = 0
         for path in glob.glob(os.path.join(ROOT, "tests", "cases", "*", "*.out")):
-            with open(path, newline="", encoding="utf-8") as file:
-                text = file.read()
+            text = text_at(path)
             if text.startswith(HEADER + "final,") or "\nreport," not in text:
                 continue
             found = histories_of(path)
@@ -218,8 +216,8 @@ class Geometry(Readable):
         """The texts of a picture, each of which is inside it and apart from all others."""
         options = picture.options_of([self.write("log", ended(log, queues=queues)), *words])
         found = histories_of(options.log)
-        start = found.first if options.start is None else options.start
-        end = found.last if options.end is None else options.end
+        start = found.first if options.first is None else options.first
+        end = found.last if options.last is None else options.last
         drawn, left_out = found.chosen(options.queue, picture.QUEUES_MOST)
         requirements = [picture.Requirement(text) for text in options.require]
         parts = [picture.Part(queue, start, end, options.width, requirements) for queue in drawn]
@@ -340,8 +338,7 @@ class Tool(ToolCase):
         self.assertEqual((status, out), (0, ""))
         self.assertIn(err, ("", "picture: no font of this machine has \u6ce8\u6587: boxes stand there, and an SVG "
                                 "would leave them to its viewer\n"))
-        status, out, err = self.run_tool("picture", log, "--title", title)
-        self.assertEqual((status, err), (0, ""))
+        out = self.output("picture", log, "--title", title)
         self.assertIn(title, out)
 
     def test_width_of_a_png(self):
@@ -358,15 +355,14 @@ class Tool(ToolCase):
         for i in range(33_400):
             rows.append(f"{30 * i},q,p,send,new,m-0-{i},,x\n{30 * i + 5},q,c,receive,ok,m-0-{i},r-0-{i}-1,o-0-{i}\n")
             rows.append(f"{30 * i + 6 + i % 20},q,c,delete,deleted,m-0-{i},r-0-{i}-1,{6 + i % 20}\n")
-        status, out, err = self.run_tool("picture", "-", stdin=ended("".join(rows)).encode())
-        self.assertEqual((status, err), (0, ""))
+        out = self.output("picture", "-", stdin=ended("".join(rows)).encode())
         self.assertIn("Whole run: 33,400 came in, 33,400 deleted, 0 left.", out)
         self.assertLess(len(out), 700_000)
 
     def test_faults(self):
         log = self.write("log", ended(LOG))
         alone = self.write("alone", LOG)
-        for words, line in (
+        self.assert_faults("picture", (
                 (("none",), "cannot read none: No such file or directory"),
                 ((self.write("empty", HEADER),), f"{self.path('empty')} has no rows to draw"),
                 ((log, "--queue", "x"), "the run has no queue x"),
@@ -381,9 +377,7 @@ class Tool(ToolCase):
                 ((log, "--scenario", "none.toml"), "cannot read none.toml: No such file or directory"),
                 ((log, "--height", "60000"), "a height of 60000 is too great: 50000 is the most"),
                 ((self.write("cut", "".join(LOG.splitlines(True)[:1] + LOG.splitlines(True)[3:])),),
-                 f"{self.path('cut')} line 2: m-0-0 cannot be: is this the whole log?")):
-            with self.subTest(words=words):
-                self.assert_fault(self.run_tool("picture", *words), f"picture: {line}")
+                 f"{self.path('cut')} line 2: m-0-0 cannot be: is this the whole log?")))
 
     def test_hostile_logs(self):
         self.assert_hostile_logs("picture")
@@ -398,11 +392,9 @@ class Tool(ToolCase):
     @needs_program
     def test_picture_of_the_documents(self):
         """The stored picture is the one that is drawn, by the same version of matplotlib, or has the same texts."""
-        with open(os.path.join(ROOT, "docs", "picture.svg"), encoding="utf-8") as file:
-            stored = file.read()
+        stored = text_at(ROOT, "docs", "picture.svg")
         log, scenario = self.log_of_example("dead_letters.toml"), os.path.join(ROOT, "examples", "dead_letters.toml")
-        status, out, err = self.run_tool("picture", log, "--to", "40000", "--scenario", scenario)
-        self.assertEqual((status, err), (0, ""))
+        out = self.output("picture", log, "--to", "40000", "--scenario", scenario)
         texts = [re.findall(r"<text [^>]*>([^<]*)</text>", svg) for svg in (stored, out)]
         self.assertEqual(*texts)
         self.assertGreater(len(texts[0]), 40)

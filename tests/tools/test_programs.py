@@ -73,15 +73,14 @@ class WrapperCase(ToolCase):
 
     def make_program(self, name, text):
         os.makedirs(os.path.dirname(self.path(name)), exist_ok=True)
-        os.chmod(self.write(name, text), 0o755)
+        self.script(name, text)
 
     def make_built(self):
         self.make_program("crates/sqs_rehearse/out/sqs_rehearse", PROGRAM.format("built"))
 
     def make_dist(self, program=PROGRAM.format("packed")):
         """Puts a program into dist/, as that of the sources that are there now."""
-        with open(self.path("dist/sqs_rehearse-x86_64-linux.gz"), "wb") as file:
-            file.write(gzip.compress(program.encode(), mtime=0))
+        self.write("dist/sqs_rehearse-x86_64-linux.gz", gzip.compress(program.encode(), mtime=0))
         listed = subprocess.run([self.path("tools/sources")], check=True, capture_output=True).stdout
         sums = [hashlib.sha256(data).hexdigest() for data in (listed, program.encode())]
         self.write("dist/manifest", "# A comment.\nversion 1.2\nkit kit 1\nsources {}\nprogram {}\n".format(*sums))

@@ -3,13 +3,12 @@ import unittest
 import unittest.mock
 from collections import Counter
 
-from tool import LOG_HEADER, ToolCase, ended, row_of
+from tool import HEADER, ToolCase, ended, row_of
 from rehearse_tools import logs
 from rehearse_tools.console import Fault
 from rehearse_tools.logs import Log
 from rehearse_tools.replay import (DELAYED, IN_FLIGHT, KINDS, VISIBLE, BadRow, Checked, Places, Replay, handlers_of,
                                    replay, take_finals)
-HEADER = LOG_HEADER.decode()
 
 
 class Names:

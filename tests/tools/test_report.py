@@ -11,7 +11,7 @@ import sys
 import unittest
 from html.parser import HTMLParser
 
-from tool import LIMIT, PROGRAM, ROOT, TOOLS, ToolCase, module_of, needs_program, row_of
+from tool import HEADERS, LIMIT, PROGRAM, ROOT, TOOLS, ToolCase, module_of, needs_program, row_of, text_at
 from rehearse_tools.console import Fault, check_library
 from rehearse_tools.histories import History
 
@@ -38,13 +38,7 @@ RUN = """at,queue,agent,call,answer,message,receipt,detail
 1500,q,c,receive,ok,m-0-0,r-0-0-1,o-0-0
 2000,q,c,delete,deleted,m-0-0,r-0-0-1,2000
 9000,q,q,expire,expired,m-0-1,,8000
-final,queue,message,origin,place,due,enqueued,receives,group,md5
-transfer,from,to,kind,due,number,message,origin,md5
-task,name,status,moved
-report,queue,sends,repeats,receives,empties,deletes,expiries,redrives,moves,arrivals,OverLimit,MessageNotInflight,\
-ReceiptHandleIsInvalid,BadTimeout,MissingGroup,MissingDeduplication,BadDelay,TaskRunning,NoTask,depth_max,visible,\
-in_flight,delayed,age_sum,age_max,age_p50,age_p95,age_p99
-report,q,2,0,1,0,1,1,0,0,0,0,0,0,0,0,0,0,0,0,2,0,0,0,2000,2000,2000,2000,2000
+""" + HEADERS + """report,q,2,0,1,0,1,1,0,0,0,0,0,0,0,0,0,0,0,0,2,0,0,0,2000,2000,2000,2000,2000
 """
 DEAD_LETTERS = """version = 1
 horizon = 1000
@@ -100,11 +94,7 @@ class Page(HTMLParser):
 
 @unittest.skipUnless(has_plotly, "plotly is missing, which tools/setup installs")
 class Report(ToolCase):
-    def setUp(self):
-        super().setUp()
-        self.program = self.write("program", STAND_IN)
-        os.chmod(self.program, 0o755)
-        self.scenario = self.write("s.toml", SCENARIO)
+    scenario_text, stand_in = SCENARIO, STAND_IN
 
     def report(self, *words):
         return self.run_tool("report", *words, SQS_REHEARSE=self.program, SOURCE_DATE_EPOCH="1000000000")
@@ -113,8 +103,7 @@ class Report(ToolCase):
         """The page, and what standard error reports; nothing is on standard output."""
         found = self.report(self.scenario, "--output", "r.html", *words)
         self.assertEqual(found[:2], (status, ""))
-        with open(self.path("r.html"), encoding="utf-8") as file:
-            return file.read(), found[2]
+        return text_at(self.path("r.html")), found[2]
 
     def test_what_the_page_tells(self):
         text, err = self.page("--require", "q.age_p95<60s", "--require", "q.expiries=0", "--title", "A <run>", status=1)
@@ -124,8 +113,7 @@ class Report(ToolCase):
         self.assertIn('<h2 id="section-1">q</h2>', text)
         self.assertIn('role="img" aria-label="q over time. 2 came in, 1 deleted, 1 expired, 0 left."', text)
         told = "|".join(page.texts)
-        with open(os.path.join(TOOLS, "VERSION"), encoding="utf-8") as file:
-            version = file.read().strip()
+        version = text_at(TOOLS, "VERSION").strip()
         sha = hashlib.sha256(SCENARIO.encode()).hexdigest()
         for part in ("A <run>|A <run>|s.toml, seed 11: 5 rows, the last at 9.00 s.|sqs_rehearse {version}, "
                      "2001-09-09. SHA-256 of the scenario {sha}.|Lost by expiry: 1 in q|",
@@ -250,8 +238,7 @@ class Report(ToolCase):
             with self.subTest(words=words):
                 self.assert_fault(self.report(*words), f"report: {line}")
         for data in (b"\x00\xff", bytes(range(256)), b"version = ", b"a = " + b"[" * 9_000):
-            with open(self.path("bad.toml"), "wb") as file:
-                file.write(data)
+            self.write("bad.toml", data)
             status, out, err = self.report("bad.toml", "--output", "r.html", "--queue", "q")
             self.assertEqual((status, out, len(err.splitlines())), (2, "", 1), err)
 
@@ -272,8 +259,7 @@ class Report(ToolCase):
         status, out, err = self.run_tool("report", example, "--output", "r.html", *words, SQS_REHEARSE=PROGRAM)
         self.assertEqual((status, out, err),
                          (1, "", "report: orders.age_p95<10s fails: it is 10227 ms, 10.2 s\n"))
-        with open(self.path("r.html"), encoding="utf-8") as file:
-            page = Page(file.read())
+        page = Page(text_at(self.path("r.html")))
         self.assertEqual((page.inside, page.links, page.scripts), ([], ["#section-1", "#section-2"], 3))
         told = "|".join(page.texts)
         self.assertIn("All queues|queue|came in|deleted|dead-lettered|lost|left|age 50 %|age 95 %|depth|"
@@ -281,22 +267,19 @@ class Report(ToolCase):
 
     @needs_program
     def test_version_3_is_asked_for(self):
-        with open(os.path.join(ROOT, "tests", "cases", "version-3", "heartbeat.toml"), encoding="utf-8") as file:
-            scenario = self.write("h.toml", file.read())
+        scenario = self.write("h.toml", text_at(ROOT, "tests", "cases", "version-3", "heartbeat.toml"))
         words = scenario, "--output", "h.html"
         self.assertEqual(self.run_tool("report", *words, SQS_REHEARSE=PROGRAM),
                          (1, "", "report: refused 14 OutOfRange at version; tools/explain tells more\n"))
         self.assertEqual(self.run_tool("report", *words, "--preview", SQS_REHEARSE=PROGRAM), (0, "", ""))
-        with open(self.path("h.html"), encoding="utf-8") as file:
-            self.assertIn("h.html --preview", "|".join(Page(file.read()).texts))
+        self.assertIn("h.html --preview", "|".join(Page(text_at(self.path("h.html"))).texts))
 
     @needs_program
     def test_a_dead_letter_queue_without_rows(self):
         """It stands in the table of all queues, though nothing of it can be drawn."""
         scenario = self.write("d.toml", DEAD_LETTERS)
         self.assertEqual(self.run_tool("report", scenario, "--output", "d.html", SQS_REHEARSE=PROGRAM), (0, "", ""))
-        with open(self.path("d.html"), encoding="utf-8") as file:
-            page = Page(file.read())
+        page = Page(text_at(self.path("d.html")))
         self.assertEqual(page.links, ["#section-1"])
         self.assertIn("|d|0|0|0|0|0|-|-|0|0 dead letters|", "|".join(page.texts))
 

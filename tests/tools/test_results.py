@@ -221,8 +221,7 @@ class Files(ToolCase):
 
     def test_bytes_that_are_no_text_are_refused_by_name(self) -> None:
         name, text = file_of(4)
-        with open(self.path(name), "wb") as file:
-            file.write(text.encode().replace(b"10713", b"1071\xff"))
+        self.write(name, text.encode().replace(b"10713", b"1071\xff"))
         found = results.collected(results.files_in(self.folder))
         self.assertEqual(found.faults, [f"{name} is not as it was written: its checksum is another"])
 

@@ -14,7 +14,7 @@ from itertools import chain
 from typing import Any
 
 from test_summary import LOG, PARTS, WAYS, cases
-from tool import PROGRAM, ToolCase, needs_program
+from tool import PROGRAM, ToolCase, needs_program, printed, text_at
 from rehearse_tools import runs
 from rehearse_tools.requirements import Requirement
 from rehearse_tools.runs import COLUMNS, Ages
@@ -148,8 +148,7 @@ class Cut(ToolCase):
                                                                "age_p50": "", "age_p95": "", "age_p99": ""})
 
     def queues(self, text: str, *words: str) -> dict[str, dict[str, Any]]:
-        status, out, err = self.run_tool("summary", "--json", self.write("run.txt", text), *words)
-        self.assertEqual((status, err), (0, ""))
+        out = self.output("summary", "--json", self.write("run.txt", text), *words)
         run, = json.loads(out)["runs"]
         return {queue["queue"]: queue for queue in run["queues"]}
 
@@ -174,8 +173,7 @@ class Cut(ToolCase):
 
     def test_summary_between_moments(self) -> None:
         path = self.write("run.txt", WAYS)
-        status, out, err = self.run_tool("summary", path, "--from", "1.5s", "--to", "1700")
-        self.assertEqual((status, err), (0, ""))
+        out = self.output("summary", path, "--from", "1.5s", "--to", "1700")
         self.assertEqual(out.splitlines()[1:4], [
             f"{path}: 4 rows, the last at 1.70 s", "   counted from 1.50 s to 1.70 s",
             "   it is not told which of the messages left are delayed"])
@@ -211,8 +209,8 @@ class Sweeps(ToolCase):
         self.assertEqual(status, 0)
         for seed, row in zip("123", csv.DictReader(io.StringIO(out))):
             text = OVERLOADED.replace("60000", f"40000\nseed = {seed}")
-            log = subprocess.run([str(PROGRAM), "run", "--quiet"], input=text, capture_output=True, text=True).stdout
-            self.assertEqual({column: row[column] for column in COLUMNS}, counts_of(log, 10_000)["q"])
+            counts = counts_of(printed("run", "--quiet", text=text), 10_000)["q"]
+            self.assertEqual({column: row[column] for column in COLUMNS}, counts)
             self.assertGreater(int(row["sends"]), 0)
 
     def test_requirements_use_them(self) -> None:
@@ -264,8 +262,7 @@ class Sweeps(ToolCase):
         status, out, err = self.run_tool("report", self.scenario, "--require", "q.age_p95<90s", "--output", "o.html")
         self.assertEqual((status, out), (1, ""))
         self.assertTrue(err.startswith("report: q.age_p95<90s is undecided: it is "), err)
-        with open(self.path("o.html"), encoding="utf-8") as file:
-            self.assertIn('<td class="fails">is undecided</td><td>q.age_p95&lt;90s</td>', file.read())
+        self.assertIn('<td class="fails">is undecided</td><td>q.age_p95&lt;90s</td>', text_at(self.path("o.html")))
 
 
     def test_a_report_from_and_to_a_moment(self) -> None:
@@ -280,8 +277,7 @@ class Sweeps(ToolCase):
             status, _, err = self.run_tool("report", self.scenario, *words, *requires, "--output", "o.html")
             self.assertEqual(status, 1)
             self.assertEqual(len(re.findall(r"^report: q\.\w+!=\d+ fails: it is ", err, re.M)), 4, err)
-            with open(self.path("o.html"), encoding="utf-8") as file:
-                self.assertIn(f", {told}.</p>", file.read())
+            self.assertIn(f", {told}.</p>", text_at(self.path("o.html")))
         self.assert_fault(self.run_tool("report", self.scenario, "--from", "2m", "--output", "o.html"),
                           "report: --from 120000 ms is after the horizon of 60000 ms")
 

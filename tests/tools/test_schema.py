@@ -6,7 +6,7 @@ import re
 import unittest
 
 from code_keys import code_keys, constant, listed_keys
-from tool import ROOT
+from tool import ROOT, text_at
 from rehearse_tools.console import Fault, library, toml_of
 from rehearse_tools.keys import (CONSUMER, FIFO, HEAD, ITEMS, NUMBER, NUMBERS, PREVIEW, PRODUCER, QUANTILES, QUEUE,
                                  REQUIRED, SCRIPT, STANDARD, STRETCHES, TASK, TOP, TRUTH, VERSIONS, WEIGHTS, consumer_keys,
@@ -47,8 +47,7 @@ def read(text):
 
 def documented_tables():
     """The cells of each table of keys in the document: name, default and range."""
-    with open(os.path.join(ROOT, "docs", "FORMATS.md"), encoding="utf-8") as file:
-        lines = file.read().splitlines()
+    lines = text_at(ROOT, "docs", "FORMATS.md").splitlines()
     tables = {}
     for place, line in enumerate(lines):
         head = [cell.strip() for cell in line.strip("|").split("|")]

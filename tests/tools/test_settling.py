@@ -2,7 +2,7 @@
 import io
 import unittest
 
-from tool import ToolCase, needs_program
+from tool import ToolCase, needs_program, text_at
 from rehearse_tools import settling
 
 # A message a second for 100 minutes, which nobody receives and which expires: the depth grows until the retention
@@ -86,8 +86,7 @@ class Sweeps(ToolCase):
         for more, hints in (((), 1), (("--from", "20m"), 0)):
             status, _, err = self.run_tool("sweep", *words, "settled.svg", *more)
             self.assertEqual((status, err.count("--from")), (0, hints), err)
-            with open(self.path("settled.svg"), encoding="utf-8") as file:
-                text = file.read()
+            text = text_at(self.path("settled.svg"))
             for wanted in ("When the runs settle", "over 6 runs", "q: settled from 20m on, by MSER-5"):
                 self.assertIn(wanted, text)
             self.assertNotIn("empty", text)

@@ -100,8 +100,7 @@ class Slurm(ToolCase):
         """Gives the tasks a program whose runs wait in the task with number 2 while a file is there; returns its path.
         The first such run makes another file, `begun`."""
         hold = self.write("hold", "")
-        program = self.write("program", HELD_PROGRAM.format(hold=hold, begun=self.path("begun"), program=PROGRAM))
-        os.chmod(program, 0o755)
+        program = self.script("program", HELD_PROGRAM.format(hold=hold, begun=self.path("begun"), program=PROGRAM))
         self.environment["SQS_REHEARSE"] = program
         return hold
 

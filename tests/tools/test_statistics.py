@@ -13,7 +13,7 @@ import sys
 import unittest
 from collections.abc import Callable, Iterator
 
-from tool import PROGRAM, ROOT, TOOLS, ToolCase, module_at, needs_program
+from tool import PROGRAM, ROOT, TOOLS, ToolCase, module_at, needs_program, text_at
 
 from rehearse_tools import statistics as figures
 from rehearse_tools.logs import REPORT_HEADER
@@ -527,8 +527,7 @@ class Page(unittest.TestCase):
     """docs/STATISTICS.md prints what it says."""
 
     def setUp(self) -> None:
-        with open(os.path.join(ROOT, "docs", "STATISTICS.md"), encoding="utf-8") as file:
-            self.page = file.read()
+        self.page = text_at(ROOT, "docs", "STATISTICS.md")
 
     def test_its_commands(self) -> None:
         questions = module_at(os.path.join(ROOT, "tests", "questions"), "questions")

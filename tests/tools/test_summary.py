@@ -11,10 +11,9 @@ import subprocess
 import sys
 import unittest
 
-from tool import PROGRAM, ROOT, TOOLS, ToolCase, module_of, needs_program, open_end
+from tool import HEADER, HEADERS, PROGRAM, ROOT, TOOLS, ToolCase, module_of, needs_program, open_end, text_at
 from rehearse_tools import summaries
 
-HEADER = "at,queue,agent,call,answer,message,receipt,detail\n"
 # A long poll; a batch of two; m-0-0 is handled by two consumers, m-0-1 after its timeout, m-0-2 as it has left for d.
 LOG = HEADER + """0,a,left,receive,wait,,,
 100,a,shop,send,new,m-0-0,,900150983cd24fb0d6963f7d28e17f72
@@ -42,13 +41,7 @@ LOG = HEADER + """0,a,left,receive,wait,,,
 9500,a,shop,change,MessageNotInflight,,r-0-0-1,
 60200,d,d,expire,expired,m-1-0,,60000
 """
-PARTS = """final,queue,message,origin,place,due,enqueued,receives,group,md5
-transfer,from,to,kind,due,number,message,origin,md5
-task,name,status,moved
-report,queue,sends,repeats,receives,empties,deletes,expiries,redrives,moves,arrivals,OverLimit,MessageNotInflight,\
-ReceiptHandleIsInvalid,BadTimeout,MissingGroup,MissingDeduplication,BadDelay,TaskRunning,NoTask,depth_max,visible,\
-in_flight,delayed,age_sum,age_max,age_p50,age_p95,age_p99
-report,a,3,0,5,2,2,0,1,0,0,0,1,0,0,0,0,0,0,0,3,0,0,0,5300,2800,2500,2800,2800
+PARTS = HEADERS + """report,a,3,0,5,2,2,0,1,0,0,0,1,0,0,0,0,0,0,0,3,0,0,0,5300,2800,2500,2800,2800
 report,d,0,0,0,0,0,1,0,0,1,0,0,0,0,0,0,0,0,0,1,0,0,0,0,,,,
 """
 TEXT = """run.txt: 25 rows, the last at 1 min 0 s
@@ -149,8 +142,7 @@ class SummaryCase(ToolCase):
     def queues(self, *texts, backlog=10):
         """What --json tells of the queues of one run, by their names."""
         paths = [self.write(f"text{place}", text) for place, text in enumerate(texts)]
-        status, out, err = self.run_tool("summary", "--json", *paths, "--backlog", str(backlog))
-        self.assertEqual((status, err), (0, ""))
+        out = self.output("summary", "--json", *paths, "--backlog", str(backlog))
         run, = json.loads(out)["runs"]
         return {queue["queue"]: queue for queue in run["queues"]}
 
@@ -340,8 +332,7 @@ def leading(age):
 class SideBySide(SummaryCase):
     def test_two_runs(self):
         before, after = self.write("before", LOG + PARTS), self.write("after", FIFO)
-        status, out, err = self.run_tool("summary", before, after)
-        self.assertEqual((status, err), (0, ""))
+        out = self.output("summary", before, after)
         end = open_end("", after).removeprefix(": ")
         self.assertTrue(out.startswith(f"before, {before}: 25 rows, the last at 1 min 0 s\n!! LOST BY EXPIRY: 1 in d\n"
                                        f"{end}after, {after}: 11 rows, the last at 3.60 s\n   it is not told which"))
@@ -475,20 +466,18 @@ class Faults(SummaryCase):
         self.assert_told(HEADER + "x" * 3_000_000, "text has a line of over 1,048,576 letters")
         self.assert_fault(self.run_tool("summary", "none"), "summary: cannot read none: No such file or directory")
         self.assert_fault(self.run_tool("summary", self.folder), f"summary: cannot read {self.folder}: Is a directory")
-        with open(self.path("bytes"), "wb") as file:
-            file.write(HEADER.encode() + b"0,a,shop,send,new,m-0-0,,\xff\xfe\n")
+        self.write("bytes", HEADER.encode() + b"0,a,shop,send,new,m-0-0,,\xff\xfe\n")
         self.assert_fault(self.run_tool("summary", "bytes"), "summary: bytes is not UTF-8")
 
     def test_words(self):
         log = self.write("log", LOG)
-        for words, line in (
+        self.assert_faults("summary", (
                 ((), "the following arguments are required: FILE (--help tells the usage)"),
                 (("-", "-"), "standard input can be read once"),
                 ((log, "--queue"), "argument --queue: expected one argument (--help tells the usage)"),
                 ((log, "--queue", "x"), "there is no queue x"),
                 ((log, "--fast"), "unrecognized arguments: --fast (--help tells the usage)"),
-                ((log, log, log), f"{log} is the log of a third run: two can be told side by side")):
-            self.assert_fault(self.run_tool("summary", *words), f"summary: {line}")
+                ((log, log, log), f"{log} is the log of a third run: two can be told side by side")))
 
     def test_cut(self):
         """No prefix of a whole output is reported, other than one that ends with a row of its log."""
@@ -589,8 +578,7 @@ class Program(SummaryCase):
         told = subprocess.run([sys.executable, os.path.join(TOOLS, "summary"), "-", "--queue", "orders"],
                               input=run.stdout, capture_output=True)
         self.assertEqual((told.returncode, told.stderr), (0, b""))
-        with open(os.path.join(TOOLS, "README.md"), encoding="utf-8") as file:
-            self.assertIn(f"```\n{told.stdout.decode()}```\n", file.read())
+        self.assertIn(f"```\n{told.stdout.decode()}```\n", text_at(TOOLS, "README.md"))
 
     @needs_program
     def test_examples(self):

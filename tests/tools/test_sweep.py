@@ -9,13 +9,11 @@ import subprocess
 import sys
 import unittest
 
-from tool import LIMIT, PROGRAM, ROOT, TOOLS, ToolCase, needs_program, read_whole, wait_for
+from tool import LIMIT, PROGRAM, REPORT_HEADER, ROOT, TOOLS, ToolCase, needs_program, read_whole, text_at, wait_for
 from rehearse_tools.console import toml_of
 from rehearse_tools.variants import values_of
 
-COLUMNS = ("sends,repeats,receives,empties,deletes,expiries,redrives,moves,arrivals,OverLimit,MessageNotInflight,"
-           "ReceiptHandleIsInvalid,BadTimeout,MissingGroup,MissingDeduplication,BadDelay,TaskRunning,NoTask,depth_max,"
-           "visible,in_flight,delayed,age_sum,age_max,age_p50,age_p95,age_p99")
+COLUMNS = REPORT_HEADER.strip().removeprefix("report,queue,")
 SCENARIO = """version = 1
 horizon = 1000
 seed = 0
@@ -61,11 +59,7 @@ echo "report,r,{"0," * 22}0,,,,"
 
 
 class Sweep(ToolCase):
-    def setUp(self):
-        super().setUp()
-        self.scenario = self.write("s.toml", SCENARIO)
-        self.program = self.write("program", STAND_IN)
-        os.chmod(self.program, 0o755)
+    scenario_text, stand_in = SCENARIO, STAND_IN
 
     def sweep(self, *words):
         return self.run_tool("sweep", *words, SQS_REHEARSE=self.program)
@@ -235,8 +229,7 @@ class Sweep(ToolCase):
 
     def test_files_that_are_no_scenario(self):
         for data in (b"\x00\x01", b"version = ", "version = 1".encode("utf-16"), b"a = " + b"[" * 3_000):
-            with open(self.path("bad.toml"), "wb") as file:
-                file.write(data)
+            self.write("bad.toml", data)
             status, out, err = self.sweep("bad.toml", "--vary", "seed=1")
             self.assertEqual((status, out, len(err.splitlines())), (2, "", 1), err)
 
@@ -303,8 +296,7 @@ q         2   5.5      6.364      1     5.5        10      57.178  105.5      6.
 r         2     0          0      0       0         0           0      0          0      0       0         0           0
 """)
         self.assertEqual(self.sweep(*words, "--spread", "seed", "--output", "rows.csv")[0], 0)
-        with open(self.path("rows.csv"), encoding="utf-8") as file:
-            header, rows = self.records(file.read())
+        header, rows = self.records(text_at(self.path("rows.csv")))
         self.assertEqual((header[:5], rows[0][:5]), (["failed", "queue", "runs", "age_sum_mean", "age_sum_deviation"],
                                                      ["", "q", "2", "5.5", "6.364"]))
 
@@ -321,8 +313,7 @@ r         2     0          0      0       0         0           0      0        
             process.send_signal(number)
             out, err = process.communicate(timeout=LIMIT)
             if words:
-                with open(self.path("rows.csv"), encoding="utf-8") as file:
-                    out = file.read()
+                out = text_at(self.path("rows.csv"))
             self.assertEqual((process.returncode, out), (130, "seed,failed,queue,sends\n1,,q,101\n1,,r,0\n"))
             self.assertIn("sweep: interrupted after 1 of 3 variants\n", err)
 
@@ -399,8 +390,7 @@ service_max_ms = 200
 
     @needs_program
     def test_example_of_the_documents(self):
-        with open(os.path.join(TOOLS, "README.md"), encoding="utf-8") as file:
-            text = file.read()
+        text = text_at(TOOLS, "README.md")
         start = text.index("$ tools/sweep examples/dead_letters.toml")
         quoted, told = text[start:text.index("\n```", start)].split("--table\n")
         words = shlex.split(quoted.replace("\\\n", "").replace("$ tools/sweep examples/", ROOT + "/examples/"))

@@ -7,7 +7,7 @@ import subprocess
 import unittest
 
 from test_sweep import STAND_IN, SCENARIO
-from tool import ROOT, ToolCase
+from tool import ROOT, ToolCase, text_at
 
 from rehearse_tools.console import library
 
@@ -38,11 +38,10 @@ exec sh -c "$*"
 
 
 class Sweeps(ToolCase):
+    scenario_text, stand_in = SCENARIO, STAND_IN
+
     def setUp(self):
         super().setUp()
-        self.scenario = self.write("s.toml", SCENARIO)
-        self.program = self.write("program", STAND_IN)
-        os.chmod(self.program, 0o755)
         self.words = self.scenario, "--vary", "queue.q.visibility_s=2", "--vary", "seed=1..5"
         self.whole = self.sweep(*self.words)[1]
         self.write("jobs", self.sweep(*self.words, "--print-jobs", "results")[1])
@@ -105,8 +104,7 @@ class Sweeps(ToolCase):
         self.assertEqual(status, 0, errors)
         self.assertIn("parallel.sh: dead does not answer, so it gets no jobs\n", errors)
         self.assert_collected()
-        with open(self.path("calls"), encoding="utf-8") as file:
-            hosts = file.read().split()
+        hosts = text_at(self.path("calls")).split()
         self.assertEqual(hosts.count("dead"), 1, hosts)
         self.assertGreaterEqual(hosts.count("dying"), 2, hosts)
         self.assertEqual(hosts.count("alive"), 6, hosts)
@@ -170,8 +168,7 @@ class Sweeps(ToolCase):
 
     def test_commands_of_the_document(self):
         """Each file is named in it, and its sweep is one that can be asked for."""
-        with open(os.path.join(ROOT, "docs", "SWEEPS.md"), encoding="utf-8") as file:
-            text = file.read()
+        text = text_at(ROOT, "docs", "SWEEPS.md")
         for name in os.listdir(FILES):
             self.assertIn(f"examples/sweeps/{name}", text)
         end = text.index(" > jobs")

@@ -4,9 +4,8 @@ import re
 import subprocess
 import unittest
 
-from tool import PROGRAM, ToolCase, ended, needs_program, open_end
+from tool import HEADER, PROGRAM, ToolCase, ended, needs_program, open_end
 
-HEADER = "at,queue,agent,call,answer,message,receipt,detail\n"
 # Two messages come into q, of which one is deleted and the other one is left; a poll of p is empty.
 LOG = HEADER + """0,q,shop,send,new,m-0-0,,x
 5,q,shop,send,new,m-0-1,,x

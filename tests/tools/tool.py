@@ -11,6 +11,7 @@ import importlib.machinery
 import importlib.util
 import os
 import pickle
+import re
 import socket
 import subprocess
 import sys
@@ -46,6 +47,19 @@ def module_of(name):
     return module_at(os.path.join(TOOLS, name), name)
 
 
+def text_at(*parts):
+    """The text of a file, by the parts of its path, with its line ends as they are."""
+    with open(os.path.join(*parts), encoding="utf-8", newline="") as file:
+        return file.read()
+
+
+def options_in(path):
+    """The options that a program in Python takes, by its text."""
+    text = text_at(path)
+    calls = [*re.findall(r'add_argument\(("--[a-z-]+")', text), *re.findall(r"\.take\((.*?)\)\n", text, re.S)]
+    return [option for call in calls for option in re.findall(r'"(--[a-z-]+)"', call)]
+
+
 class Forks:
     """The Python of which the runs of tools are forks, as forks.py has it. It starts with the first of them."""
 
@@ -69,7 +83,8 @@ class Forks:
         return int(cls.control.recv(99))
 
 
-LOG_HEADER = b"at,queue,agent,call,answer,message,receipt,detail\n"
+HEADER = "at,queue,agent,call,answer,message,receipt,detail\n"
+LOG_HEADER = HEADER.encode()
 SENT = b"0,q,shop,send,new,m-0-0,,900150983cd24fb0d6963f7d28e17f72\n"
 # Files that are no logs, by what is wrong with them.
 HOSTILE_LOGS = {
@@ -115,12 +130,23 @@ COUNTED = ("send,new", "send,repeat", "receive,ok", "receive,empty", "delete,del
            "move,out", "arrive,new")
 
 
+# The heads of what follows the final queues.
+LAST_HEADERS = "transfer,from,to,kind,due,number,message,origin,md5\ntask,name,status,moved\n" + REPORT_HEADER
+HEADERS = FINAL_HEADER + LAST_HEADERS
+
+
+def printed(*words, text=None):
+    """What the program prints, which ends well, with a text as its standard input."""
+    ran = subprocess.run([PROGRAM, *words], input=text, capture_output=True, text=True)
+    assert (ran.returncode, ran.stderr) == (0, ""), ran.stderr
+    return ran.stdout
+
+
 def ended(log, finals="", queues=()):
     """What a run prints that has this log: these records of its final queues follow, and a report that counts the rows
     of the log's queues, and of others. It has no numbers of ages, and no greatest depth."""
     rows = list(csv.reader(log.splitlines()))[1:]
-    parts = [log, FINAL_HEADER, finals, "transfer,from,to,kind,due,number,message,origin,md5\n",
-             "task,name,status,moved\n", REPORT_HEADER]
+    parts = [log, FINAL_HEADER, finals, LAST_HEADERS]
     for queue in dict.fromkeys([*(row[1] for row in rows), *queues]):
         kinds = [f"{row[3]},{row[4]}" for row in rows if row[1] == queue]
         counts = [kinds.count(kind) for kind in COUNTED]
@@ -146,17 +172,30 @@ def row_of(at, message, detail=""):
 class ToolCase(unittest.TestCase):
     """A test with a folder of its own, in which it writes files and runs tools."""
 
+    # The text of a scenario in s.toml, and of a stand-in for the program, if a class has them.
+    scenario_text = stand_in = None
+
     def setUp(self):
         folder = tempfile.TemporaryDirectory()
         self.addCleanup(folder.cleanup)
         self.folder = folder.name
+        if self.scenario_text is not None:
+            self.scenario = self.write("s.toml", self.scenario_text)
+        if self.stand_in is not None:
+            self.program = self.script("program", self.stand_in)
 
     def path(self, name):
         return os.path.join(self.folder, name)
 
     def write(self, name, text):
-        with open(self.path(name), "w", encoding="utf-8", newline="") as file:
-            file.write(text)
+        """Writes a file, of a text or of bytes, and returns its path."""
+        with open(self.path(name), "wb") as file:
+            file.write(text if isinstance(text, bytes) else text.encode())
+        return self.path(name)
+
+    def script(self, name, text):
+        """Writes a file that can be run."""
+        os.chmod(self.write(name, text), 0o755)
         return self.path(name)
 
     def log_of_example(self, name):
@@ -187,11 +226,16 @@ class ToolCase(unittest.TestCase):
                 file.seek(0)
             return status, *(file.read().decode("utf-8").replace("\r\n", "\n") for file in files[1:])
 
+    def output(self, name, *words, **more):
+        """The standard output of a tool that ends well, and says nothing."""
+        status, out, err = self.run_tool(name, *words, **more)
+        self.assertEqual((status, err), (0, ""))
+        return out
+
     def assert_hostile_logs(self, name, *words):
         """The tool tells one line on standard error of each file that is no log, and nothing else."""
         for case, data in HOSTILE_LOGS.items():
-            with open(self.path("hostile"), "wb") as file:
-                file.write(data)
+            self.write("hostile", data)
             for log in ("hostile", "-"):
                 with self.subTest(case=case, log=log):
                     status, out, err = self.run_tool(name, log, *words, stdin=data)
@@ -201,3 +245,9 @@ class ToolCase(unittest.TestCase):
     def assert_fault(self, ran, line):
         """The tool told one line on standard error, and nothing else."""
         self.assertEqual(ran, (2, "", line + "\n"))
+
+    def assert_faults(self, name, faults):
+        """The tool tells the line of each of some words."""
+        for words, line in faults:
+            with self.subTest(words=words):
+                self.assert_fault(self.run_tool(name, *words), f"{name}: {line}")

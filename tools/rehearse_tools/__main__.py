@@ -2,8 +2,8 @@
 
     python3 -m rehearse_tools TOOL WORD ..
 
-TOOL is arrivals, explain, from-plan, from-queue, life, metrics, picture, report, summary or sweep. Each has its own
---help.
+TOOL is arrivals, explain, from-plan, from-queue, life, metrics, picture, quantiles, report, summary or sweep. Each has
+its own --help.
 """
 import importlib
 import os
@@ -13,7 +13,8 @@ from typing import cast
 
 from .console import Fault, Parser, ended, print_text, shown
 
-TOOLS = ("arrivals", "explain", "from-plan", "from-queue", "life", "metrics", "picture", "report", "summary", "sweep")
+TOOLS = ("arrivals", "explain", "from-plan", "from-queue", "life", "metrics", "picture", "quantiles", "report",
+         "summary", "sweep")
 
 
 def main_of(name: str) -> Callable[[Sequence[str]], int]:

@@ -56,13 +56,13 @@ from typing import Any, NamedTuple
 
 from .console import Fault, Parser, check_output, note, print_text, shown, write_text
 from .queues import NAME, json_in, read_any
+from .records import PLAIN_NUMBER, column_of, records_in
 from .scenarios import text_of_string
-from .scripts import AT_MOST, BODY_MOST, BYTES_MOST, FIELD_LIMIT, HEADER, RECORDS_MOST
+from .scripts import AT_MOST, BODY_MOST, BYTES_MOST, HEADER, RECORDS_MOST
 from .units import NUMBER, UNITS, quantity
 
 SENDS_MOST = 5_000_000
 RATE = re.compile(rf"({NUMBER})/({'|'.join(sorted(UNITS, key=len, reverse=True))})")
-PLAIN_NUMBER = re.compile(r"-?[0-9]{1,15}(?:\.[0-9]{1,12})?")
 CALENDAR = re.compile(r"[0-9]{4}-[0-9]{2}-[0-9]{2}(?:$|[T ][0-9:.+Z-]{1,30}$)")
 DAY, HOUR = 86_400_000, 3_600_000
 SIDE_BY_SIDE_MOST = 1_000
@@ -139,23 +139,6 @@ def counted_from(times: Sequence[Fraction], origin: str | None, unit: int) -> li
     if min(times) < start:
         raise Fault(f"a time is before the origin {origin}")
     return [time - start for time in times]
-
-
-def records_in(path: str) -> list[list[str]]:
-    csv.field_size_limit(FIELD_LIMIT)
-    try:
-        records = [record for record in csv.reader(io.StringIO(read_any(path), newline=""), strict=True) if record]
-    except csv.Error as error:
-        raise Fault(f"{path} is not CSV: {error}") from None
-    if not records:
-        raise Fault(f"{path} has no times")
-    return records
-
-
-def column_of(header: Sequence[str], name: str, path: str) -> int:
-    if name not in header:
-        raise Fault(f"{path} has no column {shown(name)}; it has {', '.join(map(shown, header))}")
-    return header.index(name)
 
 
 def times_of_file(options: Namespace) -> list[Arrival]:
@@ -344,8 +327,11 @@ def write_scripts(records: list[list[Any]], options: Namespace) -> None:
     print_text("\n".join(tables))
 
 
-# What a column of a file of times may have besides.
-OF_TIMES = "bodies", "group-ids", "deduplication-ids"
+# The options of each kind that take a text, and those that take a number.
+OPTIONS: dict[str, tuple[tuple[str, ...], dict[str, int | None]]] = {
+    "times": (("--column", "--bodies", "--group-ids", "--deduplication-ids", "--unit"), {}),
+    "metric": (("--id",), {"--period": 60}), "poisson": (("--rate", "--duration"), {}),
+    "bursts": (("--every", "--over", "--duration"), {"--size": None}), "hours": (("--numbers", "--duration"), {})}
 # What makes the times of each kind; a file of times has whole messages.
 KINDS: dict[str, Callable[[Namespace], list[Any]]] = {
     "times": times_of_file, "metric": times_of_metric, "poisson": times_of_poisson, "bursts": times_of_bursts,
@@ -361,22 +347,10 @@ def options_of(words: Sequence[str]) -> Namespace:
         if name in ("times", "metric"):
             kind.add_argument("file", nargs="?", metavar="FILE")
             kind.add_argument("--origin")
-        for option in {"times": ("column", *OF_TIMES), "metric": ("id",)}.get(name, ()):
-            kind.add_argument(f"--{option}")
-        wanted = {"poisson": ("rate",), "bursts": ("every", "over"), "hours": ("numbers",)}
-        for option in (*wanted[name], "duration") if name in wanted else ():
-            kind.add_argument(f"--{option}")
-        if name == "times":
-            kind.add_argument("--unit", default="s")
-        if name == "metric":
-            kind.add_argument("--period", type=int, default=60)
-        if name == "bursts":
-            kind.add_argument("--size", type=int)
-        kind.add_argument("--queue")
-        kind.add_argument("--body", default="message {n}")
-        for option, default in (("groups", 10), ("seed", 0), ("start", 0), ("side-by-side", 1)):
-            kind.add_argument(f"--{option}", type=int, default=default)
-        kind.add_argument("--output")
+        texts, numbers = OPTIONS[name]
+        kind.take("--queue", "--body", "--output", *texts, numbers={
+            "--groups": 10, "--seed": 0, "--start": 0, "--side-by-side": 1, **numbers})
+        kind.set_defaults(body="message {n}", **({"unit": "s"} if name == "times" else {}))
     options = parser.parse_args(words)
     if options.help:
         parser.print_help()

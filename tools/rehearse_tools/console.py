@@ -19,7 +19,7 @@ import stat
 import sys
 import tempfile
 import time
-from collections.abc import Callable, Container, Iterable
+from collections.abc import Callable, Container, Iterable, Mapping
 from typing import Any, NoReturn, TextIO, cast
 
 # The signals, beside SIGINT, by which a person or a scheduler ends a tool.
@@ -37,6 +37,10 @@ WRAPPER_NAMED = re.compile(r"(?<![\w/.])\./sqs_rehearse(?![\w/.-])")
 TOOL_NAMED = re.compile(r"(?<![\w/.-])tools/([a-z][a-z-]*)(?![\w/-]|\.\w)")
 
 
+# What options that take a text are like in each tool that has them.
+LIKE: dict[str, dict[str, Any]] = {"--from": {"dest": "first"}, "--to": {"dest": "last"}, "--scripts": {"default": "."}}
+
+
 class Fault(Exception):
     """Bad input or usage; its text is the one line that the user gets."""
 
@@ -51,6 +55,20 @@ class Parser(argparse.ArgumentParser):
 
     def __init__(self, description: str | None = None, **more: Any) -> None:
         super().__init__(description=description, **more)
+
+    def take(self, *options: str, flags: Iterable[str] = (), lists: Iterable[str] = (),
+             numbers: Mapping[str, int | None] | None = None) -> Parser:
+        """Adds options that take a text, that take nothing, that may be given several times, and that take a number
+        with a default. Those of LIKE are the same in all tools."""
+        for option in options:
+            self.add_argument(option, **LIKE.get(option, {}))
+        for option in flags:
+            self.add_argument(option, action="store_true")
+        for option in lists:
+            self.add_argument(option, action="append", default=[])
+        for option, default in (numbers or {}).items():
+            self.add_argument(option, type=int, default=default)
+        return self
 
     def format_help(self) -> str:
         return with_commands((self.description or "").strip(), *called_by()) + "\n"

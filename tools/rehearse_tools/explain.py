@@ -9,6 +9,10 @@ With --preview the program reads version 3 too, as `run --preview` does. The pro
 SQS_REHEARSE of the environment, else sqs_rehearse beside this folder. The status is 0 if the program accepts the
 scenario, 1 if it refuses it, and 2 for any other fault.
 
+Of a scenario that the program accepts the first line is that of `check`. Below are, for each queue with consumers, how
+many messages a second are sent to it by producers and scripts, the mean service of each consumer, and the load: the
+rate times the mean service, by the number of consumers. Further tries of a message are left out.
+
 Examples:
 
     tools/explain examples/first.toml
@@ -26,9 +30,10 @@ from typing import Any
 from .console import Fault, Parser, print_text, read_bytes, read_text, shown, toml_of
 from .keys import (ACTORS, FIFO, ITEMS, NUMBER, NUMBERS, PREVIEW, QUANTILES, REQUIRED, STRETCHES, TABLES, TEXT,
                    VERSIONS, WEIGHTS, Key, keys_of)
+from .loads import text_of_loads
 from .positions import Lost, Path, Positions
 from .programs import program_of, reading_words
-from .scenarios import text_of_value as text_of
+from .scenarios import parsed, text_of_value as text_of
 from .scripts import fault_of_script
 from .starting import ran
 
@@ -493,16 +498,13 @@ def checked(program: str, data: bytes, words: Sequence[str]) -> tuple[int, str, 
 
 
 def main(words: Sequence[str]) -> int:
-    parser = Parser(__doc__)
+    parser = Parser(__doc__).take("--scripts", "--program", flags=["--preview"])
     parser.add_argument("scenario", metavar="SCENARIO")
-    parser.add_argument("--preview", action="store_true")
-    parser.add_argument("--scripts", default=".", metavar="DIR")
-    parser.add_argument("--program", metavar="P")
     options = parser.parse_args(words)
     data = read_bytes(options.scenario)
     status, out, err = checked(program_of(options.program), data, reading_words(options))
     if status == 0:
-        print_text(out)
+        print_text(out + text_of_loads(parsed(data.decode("utf-8"), options.scenario), options.scripts))
         return 0
     line, path = err.strip("\n"), "standard input" if options.scenario == "-" else options.scenario
     refusal = REFUSED.fullmatch(line)

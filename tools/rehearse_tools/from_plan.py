@@ -71,10 +71,8 @@ def queue_from(found: Found, latency: int, called: dict[str, str]) -> Queue:
 
 
 def main(words: Sequence[str]) -> int:
-    parser = Parser(__doc__)
+    parser = Parser(__doc__).take(flags=["--preview"], lists=["--parameter"])
     parser.add_argument("file", metavar="FILE")
-    parser.add_argument("--parameter", action="append", default=[], metavar="KEY=VALUE")
-    parser.add_argument("--preview", action="store_true")
     add_options(parser)
     options = parser.parse_args(words)
     check_options(options, [options.file])

@@ -69,9 +69,8 @@ def queue_in(path: str, latency: int, has_depth: bool) -> Queue:
 
 
 def main(words: Sequence[str]) -> int:
-    parser = Parser(__doc__)
+    parser = Parser(__doc__).take(flags=["--depth"])
     parser.add_argument("files", nargs="+", metavar="FILE.json")
-    parser.add_argument("--depth", action="store_true")
     add_options(parser)
     options = parser.parse_args(words)
     check_options(options, options.files)

@@ -345,12 +345,9 @@ def tell_worst(log: Log, most: int) -> None:
 
 
 def main(words: Sequence[str]) -> int:
-    parser = Parser(__doc__)
+    parser = Parser(__doc__).take("--rest", flags=["--worst"], numbers={"--most": 10})
     parser.add_argument("log", metavar="LOG")
-    parser.add_argument("--rest", metavar="REST.out")
     parser.add_argument("id", metavar="ID", nargs="?")
-    parser.add_argument("--worst", action="store_true")
-    parser.add_argument("--most", type=int, default=10, metavar="N")
     options = parser.parse_intermixed_args(words)
     if options.worst == (options.id is not None):
         raise Fault("an ID or --worst is needed, and not both (--help tells the usage)")

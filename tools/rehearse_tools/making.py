@@ -2,11 +2,11 @@
 from __future__ import annotations
 
 import re
-from argparse import ArgumentParser, Namespace
+from argparse import Namespace
 from collections.abc import Iterable, Sequence
 
 from .actors import Actors, Wiring, plain
-from .console import Fault, check_output, note, write_text
+from .console import Fault, Parser, check_output, note, write_text
 from .keys import PREVIEW
 from .queues import Queue
 
@@ -49,11 +49,9 @@ def scenario_text(queues: Sequence[Queue], source: str, horizon: int, notes: Seq
     return text + ("\n" if notes else "") + "".join(f"# {note}.\n" for note in notes) + actors
 
 
-def add_options(parser: ArgumentParser) -> None:
+def add_options(parser: Parser) -> None:
     """The options that from-queue and from-plan share."""
-    parser.add_argument("--horizon", type=int, default=3_600_000, metavar="MS")
-    parser.add_argument("--latency", type=int, default=100, metavar="MS")
-    parser.add_argument("--output", metavar="FILE.toml")
+    parser.take("--output", numbers={"--horizon": 3_600_000, "--latency": 100})
 
 
 def check_options(options: Namespace, inputs: Iterable[str]) -> None:

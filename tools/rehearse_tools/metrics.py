@@ -291,7 +291,7 @@ def write_csv(metrics: Metrics, queues: Sequence[Queue], path: str | None) -> No
 def scope_of(options: Namespace) -> Scope:
     """When the run ends, and which queues it has, as far as the command line tells."""
     if options.scenario is None:
-        return Scope(moment_of("--to", options.to))
+        return Scope(moment_of("--to", options.last))
     scenario = scenario_at(options.scenario)
     horizon = scenario.get("horizon")
     if not isinstance(horizon, int) or horizon < 1:
@@ -329,23 +329,15 @@ def quiet_told(metrics: Metrics) -> str:
 
 
 def options_of(words: Sequence[str]) -> Namespace:
-    parser = Parser(__doc__)
+    parser = Parser(__doc__).take("--rest", "--scenario", "--to", "--against", "--origin", "--output",
+                                  lists=["--queue", "--alarm"], numbers={"--period": 60})
     parser.add_argument("log", metavar="LOG")
-    parser.add_argument("--rest", metavar="REST.out")
-    parser.add_argument("--scenario", metavar="FILE.toml")
-    parser.add_argument("--to", metavar="TIME")
-    parser.add_argument("--period", type=int, default=60, metavar="S")
-    parser.add_argument("--queue", action="append", default=[], metavar="NAME")
-    parser.add_argument("--alarm", action="append", default=[], metavar="ALARM")
-    parser.add_argument("--against", metavar="FILE.json")
-    parser.add_argument("--origin", metavar="TIME")
-    parser.add_argument("--output", metavar="FILE.csv")
     options = parser.parse_args(words)
     if options.against and options.alarm:
         raise Fault("--against and --alarm do not go together")
     if options.origin and not options.against:
         raise Fault("--origin goes with --against")
-    if options.scenario is not None and options.to is not None:
+    if options.scenario is not None and options.last is not None:
         raise Fault("--scenario and --to both tell when the run ends: one is enough")
     if not 1 <= options.period <= PERIODS_MOST:
         raise Fault(f"a period has 1 to {PERIODS_MOST} seconds")

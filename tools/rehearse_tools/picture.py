@@ -301,21 +301,10 @@ def origin_of(path: str | None) -> str:
 
 
 def options_of(words: Sequence[str]) -> Namespace:
-    parser = Parser(__doc__)
+    parser = Parser(__doc__).take("--rest", "--setting", "--output", "--from", "--to", "--title", "--scenario",
+                                  flags=["--sweep"], lists=["--column", "--queue", "--require"],
+                                  numbers={"--width": 1000, "--height": None})
     parser.add_argument("log", metavar="LOG")
-    parser.add_argument("--rest", metavar="REST.out")
-    parser.add_argument("--sweep", action="store_true")
-    parser.add_argument("--column", action="append", default=[], metavar="QUEUE.COLUMN")
-    parser.add_argument("--setting", metavar="NAME")
-    parser.add_argument("--output", metavar="FILE.svg")
-    parser.add_argument("--queue", action="append", metavar="NAME")
-    parser.add_argument("--from", metavar="TIME", dest="start")
-    parser.add_argument("--to", metavar="TIME", dest="end")
-    parser.add_argument("--title")
-    parser.add_argument("--require", action="append", default=[], metavar="QUEUE.COLUMN<NUMBER")
-    parser.add_argument("--scenario", metavar="FILE.toml")
-    parser.add_argument("--width", type=int, default=1000)
-    parser.add_argument("--height", type=int)
     options = parser.parse_args(words)
     if not WIDTH_LEAST <= options.width <= WIDTH_MOST:
         raise Fault(f"a width of {options.width} will not do: it is {WIDTH_LEAST} to {WIDTH_MOST}")
@@ -325,9 +314,9 @@ def options_of(words: Sequence[str]) -> Namespace:
     if ending not in FORMATS:
         raise Fault(f"{options.output} ends in none of {', '.join(FORMATS)}")
     options.kind = FORMATS[ending]
-    options.start, options.end = window_of(options.start, options.end)
+    options.first, options.last = window_of(options.first, options.last)
     check_title(options.title)
-    of_logs = options.rest, options.queue, options.start, options.end, options.scenario
+    of_logs = options.rest, options.queue or None, options.first, options.last, options.scenario
     if options.sweep and any(option is not None for option in of_logs):
         raise Fault("--rest, --queue, --from, --to and --scenario go with a LOG, not with --sweep")
     if not options.sweep and (options.column or options.setting is not None):
@@ -340,9 +329,9 @@ def log_picture(options: Namespace) -> Any:
     log = Log(options.log, rest=options.rest)
     histories = Histories(log)
     told = ", ".join(filter(None, [origin_of(options.scenario), "the log's end was not seen" if log.is_open else ""]))
-    start = histories.first if options.start is None else options.start
-    end = histories.end_of_traffic() if options.end is None else options.end
-    if options.end is None and end < histories.last:
+    start = histories.first if options.first is None else options.first
+    end = histories.end_of_traffic() if options.last is None else options.last
+    if options.last is None and end < histories.last:
         told += f"{', ' if told else ''}drawn until the traffic ends; the log goes on to {duration(histories.last)}"
     quiet = [name for name in histories.known or () if name not in histories.queues]
     if quiet and not options.queue:

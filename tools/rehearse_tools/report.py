@@ -418,17 +418,10 @@ def page(options: Namespace, words: Sequence[str], text: str, path: str) -> tupl
 
 
 def options_of(words: Sequence[str]) -> Namespace:
-    parser = Parser(__doc__)
+    parser = Parser(__doc__).take("--from", "--to", "--title", "--scripts", "--program", flags=["--preview"],
+                                  lists=["--require", "--queue"])
     parser.add_argument("scenario", metavar="SCENARIO")
-    parser.add_argument("--output", required=True, metavar="FILE.html")
-    parser.add_argument("--require", action="append", default=[], metavar="QUEUE.COLUMN<NUMBER")
-    parser.add_argument("--queue", action="append", metavar="NAME")
-    parser.add_argument("--from", dest="first", metavar="TIME")
-    parser.add_argument("--to", dest="last", metavar="TIME")
-    parser.add_argument("--title")
-    parser.add_argument("--preview", action="store_true")
-    parser.add_argument("--scripts", default=".", metavar="DIR")
-    parser.add_argument("--program", metavar="P")
+    parser.add_argument("--output", required=True)
     options = parser.parse_args(words)
     options.first, options.last = window_of(options.first, options.last)
     return options
@@ -467,7 +460,7 @@ def main(words: Sequence[str]) -> int:
         if Requirement(requirement).column == COST:
             raise Fault(f"{shown(requirement)}: a report knows no price (tools/sweep has --price)")
     text = read_text(options.scenario)
-    for name in options.queue or ():
+    for name in options.queue:
         if name not in names_of(parsed(text, options.scenario), "queue"):
             raise Fault(f"the scenario has no queue {shown(name)}")
     cut_text = text_within(text, options)

@@ -59,13 +59,21 @@ def ways_of(scenario: Mapping[str, Any]) -> frozenset[tuple[str, str]]:
                      if isinstance(start, str) and isinstance(to, str))
 
 
+def names_of_agents(actor: Mapping[str, Any]) -> list[str]:
+    """The name of an actor, or those of its copies."""
+    name, copies = actor.get("name"), actor.get("copies")
+    if not isinstance(name, str):
+        return []
+    return [f"{name}-{number}" for number in range(1, copies + 1)] if isinstance(copies, int) else [name]
+
+
 def consumers_of(scenario: Mapping[str, Any]) -> dict[str, list[str]]:
-    """The names of the consumers of each queue."""
+    """The names of the consumers of each queue whose rows say how long they are busy. A consumer that gathers messages
+    holds some before it begins to serve, which no row says."""
     found: dict[str, list[str]] = {}
     for actor in items_of(scenario, "actor"):
-        name, queue = actor.get("name"), actor.get("queue")
-        if actor.get("kind") == "consumer" and isinstance(name, str) and isinstance(queue, str):
-            found.setdefault(queue, []).append(name)
+        if actor.get("kind") == "consumer" and isinstance(actor.get("queue"), str) and not actor.get("gather_ms"):
+            found.setdefault(actor["queue"], []).extend(names_of_agents(actor))
     return found
 
 

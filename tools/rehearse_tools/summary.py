@@ -177,15 +177,9 @@ def is_coloured() -> bool:
 
 
 def main(words: Sequence[str]) -> int:
-    parser = Parser(__doc__)
+    parser = Parser(__doc__).take("--rest", "--from", "--to", flags=["--door", "--json"], lists=["--queue"],
+                                  numbers={"--backlog": BACKLOG})
     parser.add_argument("files", nargs="+", metavar="FILE")
-    parser.add_argument("--rest", metavar="REST.out")
-    parser.add_argument("--queue", action="append", metavar="NAME")
-    parser.add_argument("--from", dest="first", metavar="TIME")
-    parser.add_argument("--to", dest="last", metavar="TIME")
-    parser.add_argument("--door", action="store_true")
-    parser.add_argument("--backlog", type=int, default=BACKLOG, metavar="N")
-    parser.add_argument("--json", action="store_true")
     options = parser.parse_args(words)
     files = [*options.files, *([options.rest] if options.rest else [])]
     if files.count("-") > 1:

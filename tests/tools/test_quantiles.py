@@ -1,0 +1,150 @@
+"""Tests tools/quantiles: what the program draws by its tables, and means of times whose law is known."""
+import itertools
+import math
+import random
+import statistics
+import unittest
+
+from tool import TOOLS, ToolCase, module_of, needs_program, printed, text_at
+from rehearse_tools.console import toml_of
+
+quantiles = module_of("quantiles")
+NEITHER = "it takes a FILE, or two of --pN, or one and --mean (--help tells the usage)"
+# Of lognormal times through p50 = 120 and p99 = 900: 2.3263 is the normal variable below which 99 % are.
+LOGNORMAL = 120 * math.exp((math.log(900 / 120) / 2.3263) ** 2 / 2)
+
+
+def drawn(pairs, count=10_000):
+    """The times that the program draws by a table for words that are evenly apart, as docs/MODEL.md has them."""
+    words = [word * 1_000 for word in range(2 ** 32 // (2 * count), 2 ** 32, 2 ** 32 // count)]
+    return [low + (word - (start << 32)) * (high - low) // (end - start << 32)
+            for (start, low), (end, high) in zip(pairs, pairs[1:]) for word in words if start << 32 <= word < end << 32]
+
+
+class Quantiles(ToolCase):
+    def made(self, *words, times=(), key="service"):
+        """The pairs that are printed, and the lines of comments behind them."""
+        out = self.output("quantiles", *words, stdin="\n".join(map(str, times)).encode())
+        pairs, (permilles, column) = toml_of(out)[key], zip(*toml_of(out)[key])
+        self.assertEqual((permilles[0], permilles[-1], sorted(set(permilles))), (0, 1_000, list(permilles)))
+        self.assertTrue(len(pairs) <= 32 and 1 <= column[0] and list(column) == sorted(column), pairs)
+        return pairs, out.splitlines()[1:]
+
+    def test_the_mean_of_a_table(self):
+        """Each whole time from the first on is drawn, and not the second: of 1 and 11 these are 1 to 10."""
+        for pairs, mean in (([[0, 1], [1000, 11]], 5.5), ([[0, 7], [1000, 7]], 7), ([[0, 7], [1000, 8]], 7),
+                            ([[0, 10], [500, 10], [1000, 21]], (10 + 15) / 2),
+                            ([[0, 1], [500, 120], [990, 900], [1000, 5000]], 309.15)):
+            self.assertAlmostEqual(quantiles.mean_of(pairs), mean, places=9)
+            self.assertAlmostEqual(statistics.fmean(drawn(pairs)) / mean, 1, places=3)
+
+    def test_times_of_few_values(self):
+        """Of each value as many are drawn as there are, but for a permille on each side of it."""
+        for times in ([5], [10, 1000], [1, 1, 2], range(1, 10), range(80, 121), [120] * 50, [3] * 9 + [4]):
+            pairs, lines = self.made("-", times=times)
+            self.assertEqual(lines[:2], [f"# Times: {len(times)} of standard input",
+                                         f"# Mean of the times: {statistics.fmean(times):,.2f} ms"])
+            found = drawn(pairs)
+            for value in set(times):
+                with self.subTest(times=times, value=value):
+                    self.assertAlmostEqual(sum(time <= value + 1 for time in found) / len(found),
+                                           sum(time <= value + 1 for time in times) / len(times), delta=0.003)
+
+    def test_lognormal_times(self):
+        """The mean of the table is that of 10,000 times, and so are the medians."""
+        for deviation, seed, count in itertools.product((1, 1.5), range(3), (10, 32)):
+            chance = random.Random(seed)
+            times = sorted(max(1, 100 * math.exp(deviation * chance.gauss(0, 1))) for _ in range(10_000))
+            pairs = quantiles.table_of(quantiles.of_file(times), count)
+            self.assertLessEqual(len(pairs), count)
+            self.assertLess(abs(quantiles.mean_of(pairs) / statistics.fmean(times) - 1), 0.01)
+            self.assertLess(abs(statistics.median(drawn(pairs)) / statistics.median(times) - 1), 1 / count)
+
+    def test_laws(self):
+        """The quantiles that are given stand in the table, and the mean is that of the law or the one that is given."""
+        for words, kept, mean, law in (
+                (("--p50", "120", "--p99", "900"), [[500, 120], [990, 900]], LOGNORMAL, "p50 = 120, p99 = 900"),
+                (("--p99", "900", "--p50=120", "--mean", "175"), [[500, 120], [990, 900]], 175,
+                 "p50 = 120, p99 = 900, with a mean of 175, bent by 0.996"),
+                (("--p50", "120", "--p99", "900", "--mean", "160"), [[500, 120], [990, 900]], 160, None),
+                (("--p50", "120", "--p99", "900", "--mean", "250"), [[500, 120], [990, 900]], 250, None),
+                (("--p50", "120", "--mean", "174.6"), [[500, 120]], 174.6, "p50 = 120, with a mean of 174.6"),
+                (("--p99", "900", "--mean", "174.6"), [[990, 900]], 174.6, "p99 = 900, with a mean of 174.6"),
+                (("--p50", "40", "--p90", "80", "--p99.9", "2000"), [[500, 40], [900, 80], [999, 2000]], None, None),
+                (("--p50", "120", "--p99", "120"), [[0, 120], [1000, 120]], 120, "p50 = 120, p99 = 120")):
+            with self.subTest(words=words):
+                pairs, lines = self.made(*words)
+                self.assertEqual([pair for pair in kept if pair not in pairs], [])
+                found = quantiles.mean_of(pairs)
+                self.assertEqual(lines[2], f"# Mean of the table: {found:,.2f} ms")
+                self.assertLess(abs(found / (mean or found) - 1), 0.002)
+                self.assertIn(lines[0], (f"# Times: lognormal, by {law}", lines[0] if law is None else None))
+                self.assertRegex(lines[3], r"^# Error: [+-]0\.0\d %$")
+
+    def test_the_law_of_one_quantile_and_a_mean(self):
+        """It is that of two quantiles which has this mean: 99 % take 900 ms at most by the median and the mean."""
+        pairs, _ = self.made("--p50", "120", "--mean", f"{LOGNORMAL:.3f}")
+        self.assertAlmostEqual(sorted(drawn(pairs))[9_900], 900, delta=15)
+
+    def test_options(self):
+        """No time is over --max, as many pairs are there as are allowed, and a gap has the key gap."""
+        pairs, lines = self.made("--p50", "120", "--p99", "900", "--max", "1000", "--key", "gap", "--pairs", "10",
+                                 key="gap")
+        self.assertEqual((len(pairs) <= 10, pairs[-1], lines[0]), (True, [1000, 1000], "# Times: lognormal, by p50 = "
+                                                                   "120, p99 = 900, none over 1000"))
+        path = self.write("t.csv", "name,ms\na,10\nb,10.5\n")
+        self.assertEqual(self.made(path, "--column", "ms")[1][:2],
+                         [f"# Times: 2 of {path}", "# Mean of the times: 10.25 ms"])
+
+    def test_what_no_table_has(self):
+        """Of 1,009 times nine are the greatest that there is: a piece of a permille before them is too much."""
+        _, lines = self.made("-", times=[1] * 999 + [10] + [86_400_000] * 9)
+        self.assertRegex(lines[3], r"^# Error: -\d\.\d\d %$")
+        self.assertEqual(lines[4], "# No nearer: 32 pairs of whole permilles, with times up to 86,400,000 ms, do not "
+                                   "have this mean.")
+
+    def test_faults(self):
+        path, empty = self.write("t.csv", "ms\n12\n0.5\n"), self.write("empty", "\n\n")
+        self.assert_faults("quantiles", (
+                ((empty,), f"{empty} has no times"), (("none",), "cannot read none: No such file or directory"),
+                ((self.write("header", "ms\n"), "--column", "ms"), f"{self.path('header')} has no times"),
+                ((path,), f"{path}: record 1 is no time in milliseconds: ms"),
+                ((path, "--column", "ms"), f"{path}: record 3 is 0.5, and a time of a scenario has 1 to 86,400,000 ms"),
+                ((path, "--column", "s"), f"{path} has no column s; it has ms"),
+                ((self.write("comma", "12,5\n"),), f"{self.path('comma')}: record 1 is no time in milliseconds: 12,5"),
+                ((self.write("long", "86400001\n"),),
+                 f"{self.path('long')}: record 1 is 86400001, and a time of a scenario has 1 to 86,400,000 ms"),
+                ((path, "--p50", "12"), "a FILE stands without --pN, --mean and --max (--help tells the usage)"),
+                ((), NEITHER), (("--p50", "12"), NEITHER), (("--p50", "12", "--p50", "13"), NEITHER),
+                (("--mean", "12", "--max", "99"), NEITHER), (("--p50", "12", "--max", "99"), NEITHER),
+                (("--p50", "1.5s", "--p99", "99"), "--p50 is no time in milliseconds: 1.5s"),
+                (("--p50", "12", "--p99", "11"), "--p99 of 11 is less than --p50 of 12"),
+                (("--p50", "12", "--p99", "20", "--max", "19"), "--max of 19 is less than --p99 of 20"),
+                (("--p50", "120", "--mean", "100"), "no lognormal law with p50 = 120 has a mean of 100"),
+                (("--p50", "120", "--p99", "900", "--mean", "68"),
+                 "no such law through p50 = 120, p99 = 900 has a mean of 68"),
+                (("--p50", "120", "--p99", "900", "--max", "1000", "--mean", "520"),
+                 "no such law through p50 = 120, p99 = 900 has a mean of 520"),
+                (("--p50", "120", "--p99", "900", "--pairs", "7"),
+                 "--pairs is 8 to 32, and 3 more than the quantiles that are given"),
+                (("--p100", "12", "--p99", "900"), "unrecognized arguments: --p100 (--help tells the usage)"),
+                (("--p50", "12", "--key", "time"), "argument --key: invalid choice: 'time' (choose from 'service', "
+                                                   "'gap') (--help tells the usage)")))
+
+    @needs_program
+    def test_what_is_made_runs(self):
+        """All that is printed may be pasted into a scenario."""
+        for words, times in ((("--p50", "120", "--p99", "900"), ()), (("-",), range(1, 99))):
+            out = self.run_tool("quantiles", *words, stdin="\n".join(map(str, times)).encode())[1]
+            path = self.write("s.toml", 'version = 3\nhorizon = 9\n[[queue]]\nname = "q"\n[[actor]]\nname = "c"\n'
+                                        f'kind = "consumer"\nqueue = "q"\n{out}idle_ms = 5\n')
+            self.assertEqual(printed("check", "--preview", path), "ok queues=1 actors=1 tasks=0 least=10\n")
+
+    def test_example_of_the_documents(self):
+        text = text_at(TOOLS, "README.md")
+        words = "--p50", "120", "--p99", "900", "--max", "5000", "--pairs", "9"
+        self.assertIn(f"$ tools/quantiles {' '.join(words)}\n{self.run_tool('quantiles', *words)[1]}", text)
+
+
+if __name__ == "__main__":
+    unittest.main()

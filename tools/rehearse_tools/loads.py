@@ -1,0 +1,66 @@
+"""How busy the consumers of a scenario are, by the means of its times. explain imports it; it is not a command."""
+from __future__ import annotations
+
+import os
+import statistics
+from collections.abc import Mapping
+from typing import Any
+
+from .console import read_text
+from .quantiles import mean_of
+from .scenarios import items_of, ways_of
+from .scripts import records_of
+
+# The loads in percent over which a line says what to mind.
+HIGH, FULL = 90, 100
+
+
+def mean_time(actor: Mapping[str, Any], key: str) -> float:
+    """The mean of the times that are drawn by a key, or between its two bounds, in milliseconds."""
+    bounds: list[int] = [] if key in actor else [actor[f"{key}_min_ms"], actor[f"{key}_max_ms"]]
+    return statistics.fmean(bounds) if bounds else mean_of(actor[key])
+
+
+def mean_service(consumer: Mapping[str, Any]) -> float:
+    """The mean time of work on a message; where a batch is served at once, that of a full one."""
+    mean = mean_time(consumer, "service")
+    if consumer.get("batch_service") != "once":
+        return mean
+    return mean / int(consumer.get("batch", 1)) + int(consumer.get("service_each_ms", 0))
+
+
+def rate_of(actor: Mapping[str, Any], folder: str) -> float:
+    """How many messages an actor sends in a millisecond, from its first to its last; of a single one that is none."""
+    if actor["kind"] == "producer":
+        return 1 / mean_time(actor, "gap") if actor["count"] > 1 else 0
+    if actor["kind"] != "script":
+        return 0
+    text = actor["calls"] if "calls" in actor else read_text(os.path.join(folder, actor["script"]))
+    times = [int(record[0]) for _, record in records_of(text) if record[1] == "send"]
+    return len(times) / (times[-1] - times[0]) if len(times) > 1 else 0
+
+
+def lines_of_queue(scenario: Mapping[str, Any], queue: str, folder: str) -> list[str]:
+    """What the consumers of a queue have to do, if it has some."""
+    actors = [actor for actor in items_of(scenario, "actor") if actor["queue"] == queue]
+    consumers = [actor for actor in actors if actor["kind"] == "consumer"]
+    if not consumers:
+        return []
+    rate, count = sum(rate_of(actor, folder) for actor in actors), sum(it.get("copies", 1) for it in consumers)
+    load = 100 * rate / sum(consumer.get("copies", 1) / mean_service(consumer) for consumer in consumers)
+    others = sorted({start for start, to in ways_of(scenario) if to == queue})
+    lines = [f"{queue}: {1_000 * rate:,.2f} messages a second are sent"
+             + (f", and what comes from {', '.join(others)} is left out" if others else "")]
+    lines += [f"{consumer['name']}: a service takes {mean_service(consumer):,.1f} ms on average; the load of the "
+              f"{f'{count} consumers' if count > 1 else 'only consumer'} of {queue} is {load:,.1f} %"
+              for consumer in consumers]
+    if load > HIGH:
+        lines.append(f"{queue}: over {FULL} %, so it grows without end while messages come like this"
+                     if load > FULL else f"{queue}: over {HIGH} %, so ages depend on how long the run is")
+    return lines
+
+
+def text_of_loads(scenario: Mapping[str, Any], folder: str) -> str:
+    """For each queue that has consumers, how many messages are sent to it, and the mean service and load of each."""
+    return "".join(f"{line}\n" for queue in items_of(scenario, "queue")
+                   for line in lines_of_queue(scenario, queue["name"], folder))
