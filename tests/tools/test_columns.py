@@ -183,6 +183,35 @@ class Sweeps(ToolCase):
     def sweep(self, *words: str) -> tuple[int, str, str]:
         return self.run_tool("sweep", self.scenario, *words)
 
+    def test_consumers_of_version_3(self) -> None:
+        """Two copies serve four messages of a second each, two of them at once. What one holds that gathers messages is
+        not known, so how busy it is has no number."""
+        for key, busy in (("copies = 2", "20"), ("gather_ms = 0", "40"), ("gather_ms = 1", "")):
+            scenario = self.write("s.toml", f"""version = 3
+horizon = 9999
+[[queue]]
+name = "q"
+[[actor]]
+name = "shop"
+kind = "producer"
+queue = "q"
+count = 4
+gap_min_ms = 1
+gap_max_ms = 1
+body = "m"
+[[actor]]
+name = "c"
+kind = "consumer"
+queue = "q"
+start_ms = 10
+service_min_ms = 1000
+service_max_ms = 1000
+{key}
+""")
+            status, out, _ = self.run_tool("sweep", "--preview", scenario, "--vary", "seed=1", "--columns", "busy")
+            with self.subTest(key=key):
+                self.assertEqual((status, out.splitlines()[1].split(",")[-1]), (0, busy))
+
     def test_columns(self) -> None:
         words = "--vary", "seed=1..5", "--price", "0.4", "--columns", "requests,cost,window_age_p95"
         status, out, _ = self.sweep(*words)

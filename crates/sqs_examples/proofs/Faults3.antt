@@ -178,6 +178,36 @@ case_0_gap_at_a_consumer : shown_upto 3 0 [] (codes "version = 3\nhorizon = 1000
 unfolding reading_on_literals running_on_literals columns_of
 case_0_gap_at_a_consumer = refl
 
+-- faults-3/gather_after_the_batch.toml
+case_0_gather_after_the_batch : shown_upto 3 0 [] (codes "version = 3\nhorizon = 1000\n[[queue]]\nname = \"q\"\n[[queue]]\nname = \"f.fifo\"\n[[actor]]\nname = \"c\"\nkind = \"consumer\"\nqueue = \"q\"\nservice_min_ms = 1\nservice_max_ms = 1\ngather_ms = -1\nbatch = 11\n")
+    ≡ refused (codes "refused 14 OutOfRange at actor[0].batch\n")
+unfolding reading_on_literals running_on_literals columns_of
+case_0_gather_after_the_batch = refl
+
+-- faults-3/gather_before_the_wait.toml
+case_0_gather_before_the_wait : shown_upto 3 0 [] (codes "version = 3\nhorizon = 1000\n[[queue]]\nname = \"q\"\n[[queue]]\nname = \"f.fifo\"\n[[actor]]\nname = \"c\"\nkind = \"consumer\"\nqueue = \"q\"\nservice_min_ms = 1\nservice_max_ms = 1\ngather_ms = -1\nwait_s = 21\n")
+    ≡ refused (codes "refused 14 OutOfRange at actor[0].gather_ms\n")
+unfolding reading_on_literals running_on_literals columns_of
+case_0_gather_before_the_wait = refl
+
+-- faults-3/gather_in_version_two.toml
+case_0_gather_in_version_two : shown_upto 3 0 [] (codes "version = 2\nhorizon = 1000\n[[queue]]\nname = \"q\"\n[[queue]]\nname = \"f.fifo\"\n[[actor]]\nname = \"c\"\nkind = \"consumer\"\nqueue = \"q\"\nservice_min_ms = 1\nservice_max_ms = 1\ngather_ms = 1\n")
+    ≡ refused (codes "refused 11 UnknownKey at actor[0].gather_ms\n")
+unfolding reading_on_literals running_on_literals columns_of
+case_0_gather_in_version_two = refl
+
+-- faults-3/gather_over_five_minutes.toml
+case_0_gather_over_five_minutes : shown_upto 3 0 [] (codes "version = 3\nhorizon = 1000\n[[queue]]\nname = \"q\"\n[[queue]]\nname = \"f.fifo\"\n[[actor]]\nname = \"c\"\nkind = \"consumer\"\nqueue = \"q\"\nservice_min_ms = 1\nservice_max_ms = 1\ngather_ms = 300001\n")
+    ≡ refused (codes "refused 14 OutOfRange at actor[0].gather_ms\n")
+unfolding reading_on_literals running_on_literals columns_of
+case_0_gather_over_five_minutes = refl
+
+-- faults-3/gather_that_is_no_number.toml
+case_0_gather_that_is_no_number : shown_upto 3 0 [] (codes "version = 3\nhorizon = 1000\n[[queue]]\nname = \"q\"\n[[queue]]\nname = \"f.fifo\"\n[[actor]]\nname = \"c\"\nkind = \"consumer\"\nqueue = \"q\"\nservice_min_ms = 1\nservice_max_ms = 1\ngather_ms = \"1\"\n")
+    ≡ refused (codes "refused 13 WrongType at actor[0].gather_ms\n")
+unfolding reading_on_literals running_on_literals columns_of
+case_0_gather_that_is_no_number = refl
+
 -- faults-3/group_of_129_bytes.toml
 case_0_group_of_129_bytes : shown_upto 3 0 [] (codes "version = 3\nhorizon = 1000\n[[queue]]\nname = \"q\"\n[[queue]]\nname = \"f.fifo\"\n[[actor]]\nname = \"p\"\nkind = \"producer\"\nqueue = \"f.fifo\"\ncount = 1\nbody = \"m\"\ngap_min_ms = 1\ngap_max_ms = 1\nkey_groups = [[\"ggggggggggggggggggggggggggggggggggggggggggggggggggggggggggggggggggggggggggggggggggggggggggggggggggggggggggggggggggggggggggggggggg\", 1]]\n")
     ≡ refused (codes "refused 14 OutOfRange at actor[0].key_groups[0]\n")
