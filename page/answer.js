@@ -13,7 +13,8 @@ import { duration, grouped, several } from './units.js';
 /** @typedef {import('./scenario.js').Scenario} Scenario */
 /** @typedef {import('./side.js').Side} Side */
 /** @typedef {import('./side.js').Outcome} Outcome */
-/** What a scenario says of its parts: which queues only dead letters may come to, and the names of its consumers.
+/** What a scenario says of its parts: which queues only dead letters may come to, and the names of those consumers
+ * whose rows say how busy they are.
  * @typedef {{ forDeadLetters: string[], consumers: string[] }} Roles */
 /** What a run says that has the roles of its scenario.
  * @typedef {Pick<Outcome, 'values' | 'busy' | keyof Roles>} Told */
@@ -57,7 +58,10 @@ export function forDeadLetters(scenario) {
 
 /** @param {Scenario} scenario @returns {Roles} */
 export function rolesOf(scenario) {
-  const consumers = scenario.items('actor').filter(actor => said(actor, 'kind') === 'consumer').flatMap(actor => {
+  // No row says when a consumer that gathers messages begins to serve.
+  const told = scenario.items('actor')
+    .filter(actor => said(actor, 'kind') === 'consumer' && !said(actor, 'gather_ms'));
+  const consumers = told.flatMap(actor => {
     const name = said(actor, 'name');
     return typeof name === 'string' ? agentsOf(actor, name) : [];
   });
