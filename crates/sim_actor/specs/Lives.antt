@@ -20,7 +20,7 @@ use Rattle.sqs_model.specs.declared.agents.ActorSettings.{ActorSettings}
 use Rattle.sqs_model.specs.declared.agents.Role.{Role}
 use Rattle.sqs_model.specs.declared.agents.Role.TheVariants.{Consumer, Producer, Script}
 use Rattle.sqs_model.specs.declared.agents.Serving.{Serving}
-use Rattle.sqs_model.specs.Actor.{Actor, Asked, Beat, Ended, Failed, Gathered, Served, LastAct, act_of, at_stake, begins, ends_drawn, ends_well, ends_whole, failing_at, fails, first_at, next_beat, service_of, wakes_after}
+use Rattle.sqs_model.specs.Actor.{Actor, Asked, Beat, Ended, Failed, Gathered, Served, LastAct, act_of, at_stake, begins, ends_drawn, ends_well, ends_whole, failing_at, fails, first_at, gathers_on, next_beat, rest_after, service_of, wakes_after}
 use Rattle.sqs_model.specs.Answers.{most_count}
 use Rattle.sqs_model.specs.Draw.{Draws, drawn_chance, drawn_time}
 use Rattle.sqs_model.specs.Valid.{IsConsumer, IsProducer}
@@ -184,6 +184,13 @@ first_gathered gots c now a = record a { held = gots; done = []; failed = []; en
 -- one that got others for it
 abbrev pub more_gathered : List Got → Actor → Actor
 more_gathered gots a = record a { held = a.held ++ gots }
+
+-- what a consumer does with the first messages of a batch, and with others that it got for it
+abbrev pub begins_batch : List Got → ConsumerSettings → ℕ → Actor → Act × Actor
+begins_batch gots c now a = (acts.Nothing, gathers_on (first_gathered gots c now a) c now 0)
+
+abbrev pub adds_to_batch : List Got → ConsumerSettings → ℕ → Actor → Act × Actor
+adds_to_batch gots c now a = (acts.Nothing, gathers_on (more_gathered gots a) c now (rest_after c.idle gots))
 
 -- an actor that wakes after a time that is drawn
 abbrev pub wakes_by : Distribution → ℕ → Actor → Actor

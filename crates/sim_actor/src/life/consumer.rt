@@ -452,7 +452,7 @@ impl Life {
     {
         let messages = batch.into_vec();
         if self.holding.first().is_some() {
-            return self.gather_more(consumer, now, messages);
+            return self.gather_more(messages, consumer, now);
         }
         if messages.is_empty() {
             self.idle(consumer, now);

@@ -4,7 +4,7 @@ ghost use Rattle.sqs_model.specs.declared.agents.ActorSettings.{ActorSettings};
 ghost use Rattle.sqs_model.specs.Actor.{asks_again as the_asks_again, asks_for_more as the_asks_for_more, gathers_on, is_gathered as the_is_gathered, is_gathering as the_is_gathering, rest_after as the_rest_after};
 ghost use Rattle.sqs_model.specs.Answers.{most_count};
 ghost use Rattle.sqs_model.specs.Valid.{IsConsumer};
-ghost use Rattle.sim_actor.specs.Lives.{DoesNothing, Lives, first_gathered, last_act_of, lived, more_gathered};
+ghost use Rattle.sim_actor.specs.Lives.{DoesNothing, Lives, adds_to_batch, begins_batch, last_act_of, lived};
 
 use super::{LastAct, Life, has_come};
 use crate::holding::Holding;
@@ -103,10 +103,8 @@ impl Life {
     ) -> Result<(), Refusal>
         requires moment { now ≤ most_count }
         requires consumer { IsConsumer consumer.now }
-        ensures decision { Lives DoesNothing result self.old self.new (λ a. (
-          Act.Nothing,
-          gathers_on (first_gathered messages.items consumer.now now a) consumer.now now 0,
-        )) }
+        ensures decision { Lives DoesNothing result self.old self.new
+            (begins_batch messages.items consumer.now now) }
         ensures framed { self.new.number ≡ self.old.number }
     {
         self.holding = Holding::of(messages);
@@ -117,17 +115,14 @@ impl Life {
     // Takes what a receive gave while it gathers, and begins to serve all or gathers more.
     pub(crate) fn gather_more(
         &mut self,
+        messages: Vec<Got>,
         consumer: &ConsumerSettings,
         now: u64,
-        messages: Vec<Got>,
     ) -> Result<(), Refusal>
-        requires moment { now ≤ most_count }
         requires consumer { IsConsumer consumer.now }
-        ensures decision { Lives DoesNothing result self.old self.new (λ a. (
-          Act.Nothing,
-          gathers_on (more_gathered messages.items a) consumer.now now
-              (the_rest_after consumer.now.idle messages.items),
-        )) }
+        requires moment { now ≤ most_count }
+        ensures decision { Lives DoesNothing result self.old self.new
+            (adds_to_batch messages.items consumer.now now) }
         ensures framed { self.new.number ≡ self.old.number }
     {
         let after = rest_after(consumer.idle, messages.as_slice());
