@@ -200,7 +200,8 @@ LOADS = (
       ("p", "consumer", 'service_min_ms = 450\nservice_max_ms = 550\nbatch_service = "once"\nbatch = 5\n'
                         "service_each_ms = 50\n")],
      # a mean gap of half of 50 (1 to 99) and half of 100, and a batch of five in 750 ms
-     [SENT_TO.format("13.33"), BUSY.format("p", "150.0", "only consumer", "200.0"),
+     [SENT_TO.format("13.33"),
+      BUSY.format("p", "750.0", "only consumer", "200.0").replace("a service", "a service of 5 messages"),
       "orders: over 100 %, so it grows without end while messages come like this"]))
 explain = module_of("explain")
 

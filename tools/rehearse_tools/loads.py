@@ -29,6 +29,13 @@ def mean_service(consumer: Mapping[str, Any]) -> float:
     return mean / int(consumer.get("batch", 1)) + int(consumer.get("service_each_ms", 0))
 
 
+def text_of_service(consumer: Mapping[str, Any]) -> str:
+    """What a service is of, and how long it takes on average."""
+    size = int(consumer.get("batch", 1)) if consumer.get("batch_service") == "once" else 1
+    of = f" of {size} messages" if size > 1 else ""
+    return f"a service{of} takes {size * mean_service(consumer):,.1f} ms on average"
+
+
 def rate_of(actor: Mapping[str, Any], folder: str) -> float:
     """How many messages an actor sends in a millisecond, from its first to its last; of a single one that is none."""
     if actor["kind"] == "producer":
@@ -51,7 +58,7 @@ def lines_of_queue(scenario: Mapping[str, Any], queue: str, folder: str) -> list
     others = sorted({start for start, to in ways_of(scenario) if to == queue})
     lines = [f"{queue}: {1_000 * rate:,.2f} messages a second are sent"
              + (f", and what comes from {', '.join(others)} is left out" if others else "")]
-    lines += [f"{consumer['name']}: a service takes {mean_service(consumer):,.1f} ms on average; the load of the "
+    lines += [f"{consumer['name']}: {text_of_service(consumer)}; the load of the "
               f"{f'{count} consumers' if count > 1 else 'only consumer'} of {queue} is {load:,.1f} %"
               for consumer in consumers]
     if load > HIGH:
