@@ -7,6 +7,7 @@ from __future__ import annotations
 
 import collections
 import csv
+import functools
 import hashlib
 import io
 import pathlib
@@ -56,6 +57,15 @@ class Row(NamedTuple):
         return "o" + self.message[1:] if self.call == "send" else self.detail
 
 
+class Left(NamedTuple):
+    """A message of the final queues."""
+    queue: str
+    message: str
+    origin: str
+    place: str
+    receives: int
+
+
 Log = list[Row]
 Table = dict[str, Any]
 
@@ -76,6 +86,12 @@ def rows_of(output: bytes) -> Log:
             break
         rows.append(Row(int(fields[0]), *fields[1:]))
     return rows
+
+
+def left_in(output: bytes) -> list[Left]:
+    """The messages of the final queues in all that `run` prints."""
+    lines = [line for line in csv.reader(io.StringIO(output.decode(), newline="")) if line[0] == "final"]
+    return [Left(*line[1:5], int(line[7])) for line in lines[1:]]
 
 
 # ---- settings ----
@@ -514,18 +530,45 @@ def journeys(log: Log, scenario: Scenario) -> None:
     must(not late, None, "never arrives")
 
 
+# ---- what is left ----
+def what_is_left(log: Log, scenario: Scenario, left: list[Left]) -> None:
+    """The final queues have just the messages that came to a queue and have not left it, queue by queue in the order of
+    their numbers. One is in flight just if the rows say so. It was received as often as they say, and has the origin that
+    they tell. This law is proved."""
+    found: dict[str, dict[str, Left]] = {name: {} for name in scenario.queues}
+    for row in log:
+        there = found[row.queue]
+        if row.comes():
+            there[row.message] = Left(row.queue, row.message, row.origin(), "rests", 0)
+        elif row.leaves():
+            there.pop(row.message)
+        elif row.is_received():
+            there[row.message] = there[row.message]._replace(place="inflight", receives=there[row.message].receives + 1)
+        elif row.call == "release":
+            there[row.message] = there[row.message]._replace(place="rests")
+    told = [message for there in found.values() for message in there.values()]
+    written = [message._replace(place=message.place if message.place == "inflight" else "rests") for message in left]
+    for before, after in zip(told, written):
+        must(before == after, None, f"{after} is left, where the rows tell of {before}")
+    must(len(told) == len(written), None, f"{len(written)} messages are left, where the rows tell of {len(told)}")
+
+
 LAWS: tuple[Callable[[Log, Scenario], None], ...] = (
     in_flight, the_end, dead_letters, receipts, time, delay_and_retention, fifo, deduplication, journeys)
 
 
-def broken(log: Log, scenario: Scenario) -> dict[str, str]:
-    """The laws that a log breaks, each with the row at which it does."""
+def broken(log: Log, scenario: Scenario, left: list[Left] | None = None) -> dict[str, str]:
+    """The laws that a log breaks, each with the row at which it does; if the final queues are there, that of what is left
+    too."""
     faults = {}
-    for law in LAWS:
+    laws: dict[str, Callable[[], None]] = {law.__name__: functools.partial(law, log, scenario) for law in LAWS}
+    if left is not None:
+        laws[what_is_left.__name__] = functools.partial(what_is_left, log, scenario, left)
+    for name, law in laws.items():
         try:
-            law(log, scenario)
+            law()
         except Broken as fault:
-            faults[law.__name__] = str(fault)
+            faults[name] = str(fault)
         except (KeyError, StopIteration, ValueError, IndexError) as fault:
-            faults[law.__name__] = f"a row names what is not there ({type(fault).__name__} {fault})"
+            faults[name] = f"a row names what is not there ({type(fault).__name__} {fault})"
     return faults

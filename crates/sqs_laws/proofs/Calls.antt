@@ -1,16 +1,12 @@
 -- The rows of each call of a queue are a chain of single moves.
-use Rattle.std.specs.Prelude.{All, Bool, Err, List, None, Ok, Option, Result, Some, [], count_by, false, filter, find, get_or, if◌then◌else◌, length, map, nat_lt, true, zip, ℕ, ◌&&◌, ◌*◌, ◌+◌, ◌-◌, ◌++◌, ◌<◌, ◌==◌, ◌∷◌, ◌≡◌, ◌≢◌, ◌≤◌}
+use Rattle.std.specs.Prelude.{All, Bool, List, None, Option, Some, [], count_by, false, get_or, length, map, true, ℕ, ◌+◌, ◌-◌, ◌++◌, ◌<◌, ◌==◌, ◌∷◌, ◌≡◌, ◌≢◌, ◌≤◌}
 use Rattle.std.proofs.Common.{ap, arith, refl, subst, sym, ◌∙◌}
 use Rattle.std.proofs.lemmas.Bool.{eqb-true}
 use Rattle.std.proofs.lemmas.Bool.Decides.{nat_tests}
-use Rattle.std.proofs.lemmas.List.{append-nil}
 use Rattle.std.proofs.lemmas.List.Sums.{sum_by-cons}
-use Rattle.std.proofs.lemmas.List.Elements.{All-cons, All-filter, All-head, All-nil, All-push, All-tail, All-weaker}
+use Rattle.std.proofs.lemmas.List.Elements.{All-head, All-tail}
 use Rattle.sim_clock.specs.declared.key.Key.{Key}
-use Rattle.sim_clock.specs.declared.refusal.Refusal.{Refusal}
 use Rattle.sim_clock.specs.Firsts.{changed, without}
-use Rattle.sqs_message.specs.declared.ids.MessageId.{MessageId}
-use Rattle.sqs_message.specs.declared.ids.Receipt.{Receipt}
 use Rattle.sqs_message.specs.declared.message.Message.{Message}
 use Rattle.sqs_message.specs.declared.message.Place.{Place}
 use Rattle.sqs_message.specs.declared.message.Place.TheVariants as places
@@ -21,14 +17,12 @@ use Rattle.sqs_redrive.specs.declared.answers.Got.{Got}
 use Rattle.sqs_redrive.specs.declared.settings.Policy.{Policy}
 use Rattle.sqs_redrive.specs.declared.settings.QueueSettings.{QueueSettings}
 use Rattle.sqs_redrive.specs.declared.transfers.Load.{Load}
-use Rattle.sqs_redrive.specs.MoveTasks.{is_worn}
 use Rattle.sqs_model.specs.Acts.{all_came_back, came_back, got_row, redrive_by}
-use Rattle.sqs_model.specs.Actor.{Actor}
 use Rattle.sqs_model.specs.Giving.{all_got, all_left, all_received, all_released}
-use Rattle.sqs_model.specs.Queue.{Queue, has_number, id_of, in_flight, is_in_flight, is_visible, numbered, taken_out, with_change}
+use Rattle.sqs_model.specs.Queue.{Queue, has_number, in_flight, is_in_flight, is_visible, numbered, taken_out, with_change}
 use Rattle.sqs_model.specs.Receive.{got_of, received}
 use Rattle.sqs_model.specs.Return.{leaves, released, released_found, released_when, redrive_of, visible_again}
-use Rattle.sqs_model.specs.Site.{Core, Effect, and_then, number_of}
+use Rattle.sqs_model.specs.Site.{Core, Effect}
 use Rattle.sqs_model.proofs.Chosen.{Stand}
 use Rattle.sqs_model.proofs.Counts.{find_all, find_changed, find_picked, total, total_changed}
 use Rattle.sqs_model.proofs.Ledger.{bit}
@@ -36,7 +30,7 @@ use Rattle.sqs_model.proofs.Giving.{find_apart}
 use Rattle.sqs_model.proofs.Numbered.{Apart, one_number, other_without}
 use Rattle.sqs_model.proofs.SiteAccounts.{IsFound}
 use Rattle.sqs_laws.specs.Words as words
-use Rattle.sqs_laws.proofs.Moves.{Chain, Changes, Comes, Does, Ends, IsStocked, Keeps, Move, Names, Receives, Redrives, Releases, Stays, Tells, changes, chain_append, chain_keeps, comes, ends, one_move, receives, redrives, releases, stays}
+use Rattle.sqs_laws.proofs.Moves.{Chain, IsStocked, Move, Tells, chain_append, one_move, receives, redrives, releases}
 
 -- what a row tells, each as it computes
 pub tells : (r : Row) (a b c d e : Bool) → words.comes r ≡ a → words.received r ≡ b → words.changed r ≡ c → words.is_release r.kind ≡ d → words.leaves r ≡ e → Tells r a b c d e

@@ -1,43 +1,28 @@
 -- The rows of a handling are a chain of single moves.
-use Rattle.std.specs.Prelude.{All, Bool, List, None, Option, Some, [], drop, false, find, get_or, map, ℕ, ◌+◌, ◌++◌, ◌<◌, ◌==◌, ◌∷◌, ◌≡◌, ◌≤◌}
-use Rattle.std.proofs.Common.{ap, arith, refl, subst, sym, ◌∙◌}
+use Rattle.std.specs.Prelude.{All, List, None, Option, Some, [], false, ℕ, ◌+◌, ◌++◌, ◌∷◌, ◌≡◌}
+use Rattle.std.proofs.Common.{refl, subst, sym, ◌∙◌}
 use Rattle.std.proofs.lemmas.List.{append-nil, append_assoc}
 use Rattle.std.proofs.lemmas.List.Elements.{All-weaker}
-use Rattle.sim_clock.specs.declared.key.Class.{Class}
-use Rattle.sim_clock.specs.declared.key.Class.TheVariants as classes
 use Rattle.sim_clock.specs.declared.key.Key.{Key}
-use Rattle.sim_clock.specs.Firsts.{changed, without}
-use Rattle.sqs_message.specs.declared.ids.MessageId.{MessageId}
-use Rattle.sqs_message.specs.declared.ids.Receipt.{Receipt}
 use Rattle.sqs_message.specs.declared.message.Message.{Message}
 use Rattle.sqs_message.specs.declared.row.Row.{Row}
-use Rattle.sqs_message.specs.Ids.{read_receipt}
 use Rattle.sqs_redrive.specs.declared.answers.Got.{Got}
-use Rattle.sqs_redrive.specs.declared.settings.TaskStatus.TheVariants.{Cancelled}
-use Rattle.sqs_redrive.specs.declared.transfers.Outbound.{Outbound}
-use Rattle.sqs_redrive.specs.MoveTasks.{task_started}
-use Rattle.sqs_model.specs.declared.acts.Act.{Act}
-use Rattle.sqs_model.specs.declared.acts.Act.TheVariants as acts
 use Rattle.sqs_model.specs.declared.acts.Answer.{Answer}
 use Rattle.sqs_model.specs.declared.acts.Answer.TheVariants as told_by
 use Rattle.sqs_model.specs.Actor.{Actor, next}
-use Rattle.sqs_model.specs.Acts.{change_made, delete_made, given, send_made, sends, serve_made, with_poll}
+use Rattle.sqs_model.specs.Acts.{given, with_poll}
 use Rattle.sqs_model.specs.Arrive.{arrived}
-use Rattle.sqs_model.specs.Draw.{drawn_uniform}
-use Rattle.sqs_model.specs.Polls.{without_poll}
 use Rattle.sqs_model.specs.Queue.{Queue, numbered}
 use Rattle.sqs_model.specs.Receive.{give_most}
 use Rattle.sqs_model.specs.Return.{released}
-use Rattle.sqs_model.specs.Site.{Core, Effect, Site, actor_numbered, and_then, has_key, is_actor, no_effect, says, task_numbered, with_actor, with_task}
-use Rattle.sqs_model.specs.Step.{arrival_done, ends_at, handle_expiry, handle_step, handled, is_arrival, release_done}
-use Rattle.sqs_model.specs.Task.{Task}
-use Rattle.sqs_model.proofs.CallWalk.{CallLaw, DueLaw, IsNameless, IsTold, effect_of, handled_goes}
+use Rattle.sqs_model.specs.Site.{Core, Effect, Site, actor_numbered, is_actor, says, with_actor}
+use Rattle.sqs_model.specs.Step.{arrival_done, handle_expiry, handle_step, handled, is_arrival, release_done}
+use Rattle.sqs_model.proofs.CallWalk.{CallLaw, DueLaw, IsNameless, IsTold, handled_goes}
 use Rattle.sqs_model.proofs.Counts.{all_changed, find_all}
 use Rattle.sqs_model.proofs.SiteAccounts.{IsDueThere, IsFound}
-use Rattle.sqs_laws.proofs.Calls.{Told}
 use Rattle.sqs_laws.proofs.Giving.{AreKnown, IsGiven, most_given}
 use Rattle.sqs_laws.proofs.Holding.{HearsOfKnown, IsInformed, ServesKnown, informed_later, known_later, next_acts}
-use Rattle.sqs_laws.proofs.Moves.{Chain, IsStocked, Keeps, Move, chain_append, chain_keeps, one_move}
+use Rattle.sqs_laws.proofs.Moves.{Chain, IsStocked, Keeps, chain_append, chain_keeps, one_move}
 use Rattle.sqs_laws.proofs.Rows.{IsChain, arrived_chain, change_chain, delete_chain, expiry_chain, quiet_move, release_chain, sends_chain, serve_chain, step_chain}
 
 -- a site whose queue's messages are in order, and whose actors hold only messages of it

@@ -1,9 +1,9 @@
 -- What holds of each message of a queue, through a change of one, without one and with one more.
-use Rattle.std.specs.Prelude.{Bool, List, None, Option, Some, [], false, true, ℕ, ◌++◌, ◌==◌, ◌∷◌, ◌≡◌, ◌≢◌}
-use Rattle.std.proofs.Common.{arith, refl, subst, sym, ◌∙◌}
+use Rattle.std.specs.Prelude.{Bool, None, Some, [], false, true, ℕ, ◌++◌, ◌==◌, ◌∷◌, ◌≡◌, ◌≢◌}
+use Rattle.std.proofs.Common.{refl, subst, sym, ◌∙◌}
 use Rattle.std.proofs.lemmas.Bool.{eqb-false, eqb-true}
 use Rattle.sqs_message.specs.declared.message.Message.{Message}
-use Rattle.sqs_model.specs.Queue.{Queue, has_number, numbered, taken_out, with_change}
+use Rattle.sqs_model.specs.Queue.{Queue, numbered, taken_out, with_change}
 use Rattle.sqs_model.proofs.Numbered.{other_without}
 use Rattle.sqs_laws.proofs.Calls.{other_changed, own_changed, pushed_found}
 use Rattle.sqs_laws.proofs.Moves.{IsStocked}

@@ -1,5 +1,5 @@
 -- The end is the end: messages are numbered as they come, and none that has left is named as one that is there.
-use Rattle.std.specs.Prelude.{All, Bool, IsTrue, List, None, Option, Some, [], false, is_none, true, ℕ, ◌&&◌, ◌+◌, ◌++◌, ◌<◌, ◌==◌, ◌∷◌, ◌≡◌, ◌≢◌, ◌≤◌, ◌||◌}
+use Rattle.std.specs.Prelude.{Bool, List, None, Option, Some, [], false, is_none, true, ℕ, ◌&&◌, ◌+◌, ◌++◌, ◌<◌, ◌==◌, ◌∷◌, ◌≡◌, ◌≢◌, ◌≤◌}
 use Rattle.std.proofs.Common.{ap, arith, refl, subst, sym, ◌∙◌}
 use Rattle.std.proofs.lemmas.Bool.{eq-eqb, eqb-false, eqb-true, ne_eqb}
 use Rattle.std.proofs.Math.Bool.{and-false}
@@ -7,9 +7,8 @@ use Rattle.sim_clock.specs.declared.key.Key.{Key}
 use Rattle.sqs_message.specs.declared.ids.MessageId.{MessageId}
 use Rattle.sqs_message.specs.declared.message.Message.{Message}
 use Rattle.sqs_message.specs.declared.row.Row.{Row}
-use Rattle.sqs_redrive.specs.declared.settings.QueueSettings.{QueueSettings}
-use Rattle.sqs_model.specs.Calls.{in_flight_until, with_message}
-use Rattle.sqs_model.specs.Queue.{Entry, Queue, has_number, id_of, numbered, taken_out, with_change}
+use Rattle.sqs_model.specs.Calls.{in_flight_until}
+use Rattle.sqs_model.specs.Queue.{Entry, Queue, id_of, numbered, taken_out, with_change}
 use Rattle.sqs_model.specs.Receive.{received}
 use Rattle.sqs_model.specs.Return.{visible_again}
 use Rattle.sqs_model.specs.Run.{IsRunOf, Run}
@@ -18,9 +17,9 @@ use Rattle.sqs_model.proofs.Ledger.{bit}
 use Rattle.sqs_model.proofs.Numbered.{other_without}
 use Rattle.sqs_model.proofs.SiteAccounts.{IsFound}
 use Rattle.sqs_laws.specs.Laws.{TheEnd}
-use Rattle.sqs_laws.specs.Words.{EachRow, comes, comings, has_left, is_gone, leaves, may_follow, names}
+use Rattle.sqs_laws.specs.Words.{EachRow, comes, comings, has_left, is_gone, leaves, may_follow}
 use Rattle.sqs_laws.proofs.Calls.{found_old, other_changed, own_changed, pushed_found}
-use Rattle.sqs_laws.proofs.Moves.{Comes, Does, Ends, IsStocked, Move, Names, Redrives, Stays, Tells, changes, comes as comes_in, ends, receives, redrives, releases, stays}
+use Rattle.sqs_laws.proofs.Moves.{Comes, Does, IsStocked, Names, Stays, changes, comes as comes_in, ends, receives, redrives, releases, stays}
 use Rattle.sqs_laws.proofs.Said.{comings_as, left_now, left_still, names_apart, names_other, new_stays, pushed_other, taken_absent}
 use Rattle.sqs_laws.proofs.Worlds.{NamesOwn, RowLaw, every_row}
 

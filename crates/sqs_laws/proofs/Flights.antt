@@ -1,7 +1,6 @@
 -- Which messages are in flight, by the rows so far.
-use Rattle.std.specs.List.{fold}
-use Rattle.std.specs.Prelude.{Bool, List, None, Option, Some, [], false, if◌then◌else◌, is_some, not, true, ℕ, ◌+◌, ◌++◌, ◌<◌, ◌==◌, ◌∷◌, ◌≡◌, ◌≢◌, ◌≤◌, ◌||◌}
-use Rattle.std.proofs.Common.{ap, arith, refl, subst, sym, ◌∙◌}
+use Rattle.std.specs.Prelude.{Bool, List, None, Option, Some, [], false, if◌then◌else◌, is_some, not, true, ℕ, ◌++◌, ◌==◌, ◌∷◌, ◌≡◌, ◌≢◌, ◌||◌}
+use Rattle.std.proofs.Common.{ap, refl, subst, sym, ◌∙◌}
 use Rattle.std.proofs.lemmas.Bool.{eqb-false, eqb-true}
 use Rattle.std.proofs.lemmas.List.Sums.{fold-append}
 use Rattle.sim_clock.specs.declared.key.Key.{Key}
@@ -18,10 +17,10 @@ use Rattle.sqs_model.proofs.Numbered.{other_without}
 use Rattle.sqs_laws.specs.Words.{changed, flight, flying, is_release, leaves, names}
 use Rattle.sqs_laws.specs.Words as words
 use Rattle.sqs_laws.proofs.Calls.{other_changed, own_changed, pushed_found}
-use Rattle.sqs_laws.proofs.Each.{each_but, each_pushed, each_taken}
-use Rattle.sqs_laws.proofs.Moves.{Comes, Does, Ends, IsStocked, Move, Names, Redrives, Tells, changes, comes, ends, receives, redrives, releases, stays}
+use Rattle.sqs_laws.proofs.Each.{each_but, each_pushed}
+use Rattle.sqs_laws.proofs.Moves.{Comes, Does, IsStocked, Names, Tells, changes, comes, ends, receives, redrives, releases, stays}
 use Rattle.sqs_laws.proofs.Said.{not_there, pushed_other, taken_absent, names_apart, names_other, names_same}
-use Rattle.sqs_laws.proofs.Worlds.{NamesOwn, RowLaw}
+use Rattle.sqs_laws.proofs.Worlds.{RowLaw}
 
 -- the flight of a message with one more row
 abbrev flight_on : Bool → Bool → Bool → Option Row → Row → Option Row

@@ -1,26 +1,22 @@
 -- The rows of a receive are a chain of single moves: all messages are received, and with a timeout of 0 all then come back.
 use Rattle.std.specs.List.{list_any}
-use Rattle.std.specs.Prelude.{All, Bool, List, None, Option, Some, [], cond, false, filter, get_or, if◌then◌else◌, length, map, min, nat_lt, not, take, true, ℕ, ◌&&◌, ◌%◌, ◌++◌, ◌<◌, ◌==◌, ◌∷◌, ◌≡◌, ◌≤◌}
+use Rattle.std.specs.Prelude.{All, Bool, List, None, Option, Some, [], cond, false, filter, get_or, if◌then◌else◌, length, map, min, not, true, ℕ, ◌&&◌, ◌%◌, ◌<◌, ◌==◌, ◌∷◌, ◌≡◌, ◌≤◌}
 use Rattle.std.proofs.Common.{ap, arith, refl, subst, sym, ◌∙◌}
 use Rattle.std.proofs.lemmas.Bool.{and_parts, eqb-false, eqb-true}
 use Rattle.std.proofs.lemmas.List.{length-take}
 use Rattle.std.proofs.lemmas.List.Elements.{All-cons, All-head, All-nil, All-tail, All-take}
 use Rattle.sim_clock.specs.declared.key.Key.{Key}
 use Rattle.sqs_message.specs.declared.message.Message.{Message}
-use Rattle.sqs_message.specs.declared.row.Row.{Row}
 use Rattle.sqs_redrive.specs.declared.answers.Got.{Got}
 use Rattle.sqs_redrive.specs.declared.settings.Kind.{Kind}
 use Rattle.sqs_redrive.specs.declared.settings.Kind.TheVariants.{Fifo, Standard}
-use Rattle.sqs_redrive.specs.declared.settings.QueueSettings.{QueueSettings}
 use Rattle.sqs_model.specs.Acts.{all_came_back, given, got_row}
 use Rattle.sqs_model.specs.Available.{available, available_at, firsts, has_host, is_open, open_from}
-use Rattle.sqs_model.specs.Actor.{Actor}
-use Rattle.sqs_model.specs.Giving.{GivesThenReturns, all_got, all_left, all_received, all_released, given_and_kept, given_then_returned}
+use Rattle.sqs_model.specs.Giving.{all_got, all_left, all_received, all_released, given_then_returned}
 use Rattle.sim_clock.specs.Firsts.{kept_when}
 use Rattle.sqs_model.specs.Queue.{Queue, has_number, is_delayed, is_in_flight, is_visible, numbered, room, same_group, with_change}
 use Rattle.sqs_model.specs.Receive.{give, give_most, got_of, received, timeout_of, to_give}
 use Rattle.sqs_model.specs.Site.{Core, Effect, and_then, with_queue}
-use Rattle.sqs_model.proofs.Branches.{either_by}
 use Rattle.sqs_model.proofs.Chosen.{Stand, first_apart, first_stand}
 use Rattle.sqs_model.proofs.Counts.{find_all}
 use Rattle.sqs_model.proofs.Giving.{gives}

@@ -1,7 +1,7 @@
 -- Dead letters: a message leaves for the dead-letter queue exactly when it was received as often as the policy says.
-use Rattle.std.specs.Prelude.{All, Bool, IsTrue, List, None, Option, Some, [], false, nat_le, slice_get, suc, true, zero, ℕ, ◌&&◌, ◌+◌, ◌++◌, ◌<◌, ◌==◌, ◌∷◌, ◌≡◌, ◌≢◌, ◌≤◌, ◌||◌}
+use Rattle.std.specs.Prelude.{All, Bool, List, None, Option, Some, [], false, slice_get, suc, true, zero, ℕ, ◌&&◌, ◌+◌, ◌++◌, ◌<◌, ◌∷◌, ◌≡◌, ◌≢◌, ◌≤◌, ◌||◌}
 use Rattle.std.proofs.Common.{ap, arith, refl, subst, sym, ◌∙◌}
-use Rattle.std.proofs.lemmas.Bool.{eqb-false, eqb-true, leb-false, leb-true, or_parts}
+use Rattle.std.proofs.lemmas.Bool.{leb-false, leb-true, or_parts}
 use Rattle.std.proofs.lemmas.List.Elements.{All-head, All-tail}
 use Rattle.std.proofs.Math.Bool.{and-false}
 use Rattle.sim_clock.specs.declared.key.Key.{Key}
@@ -15,21 +15,20 @@ use Rattle.sqs_redrive.specs.declared.settings.Policy.{Policy}
 use Rattle.sqs_redrive.specs.declared.settings.QueueSettings.{QueueSettings}
 use Rattle.sqs_model.specs.Accounts.{is_deleted, is_expired}
 use Rattle.sqs_model.specs.Calls.{in_flight_until}
-use Rattle.sqs_model.specs.Queue.{Queue, has_number, id_of, is_in_flight, is_visible, numbered, taken_out, with_change}
+use Rattle.sqs_model.specs.Queue.{Queue, id_of, is_in_flight, numbered, taken_out, with_change}
 use Rattle.sqs_model.specs.Receive.{received}
 use Rattle.sqs_model.specs.Return.{leaves, visible_again}
 use Rattle.sqs_model.specs.Run.{IsRunOf, Run}
 use Rattle.sqs_model.specs.Scenario.{Scenario}
-use Rattle.sqs_model.specs.Valid.{IsPolicy, IsQueueSettings, MayBePolicy}
+use Rattle.sqs_model.specs.Valid.{IsQueueSettings, MayBePolicy}
 use Rattle.sqs_model.proofs.Ledger.{bit}
-use Rattle.sqs_model.proofs.Numbered.{other_without}
 use Rattle.sqs_laws.specs.Laws.{DeadLetters, HasPolicy}
 use Rattle.sqs_laws.specs.Words.{EachRow, is_redrive, is_release, names, times}
 use Rattle.sqs_laws.specs.Words as words
 use Rattle.sqs_laws.proofs.Calls.{found_old}
 use Rattle.sqs_laws.proofs.Each.{each_but, each_changed, each_pushed, each_taken}
-use Rattle.sqs_laws.proofs.Moves.{Changes, Comes, Does, Ends, IsStocked, Move, Names, Receives, Redrives, Releases, Stays, Tells, changes, comes, ends, receives, redrives, releases, stays}
-use Rattle.sqs_laws.proofs.Said.{names_apart, names_other, names_same, pushed_other, taken_absent, times_as}
+use Rattle.sqs_laws.proofs.Moves.{Changes, Comes, Does, IsStocked, Names, Receives, Redrives, Releases, changes, comes, ends, receives, redrives, releases, stays}
+use Rattle.sqs_laws.proofs.Said.{names_apart, names_other, names_same, times_as}
 use Rattle.sqs_laws.proofs.Worlds.{NamesOwn, RowLaw, every_row}
 
 -- a message that may still be received, or is in flight after as many receives as there may be

@@ -16,3 +16,4 @@ pub mod Receipts
 pub mod Limit
 pub mod InFlight
 pub mod Origins
+pub mod Left

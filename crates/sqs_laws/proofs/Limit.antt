@@ -1,17 +1,16 @@
 -- How many messages of a queue are in flight, by the rows so far, and that they are never more than its limit.
 use Rattle.std.specs.List.{count_by, range_with_len}
-use Rattle.std.specs.Prelude.{All, Bool, List, None, Option, Some, [], false, map, slice_get, suc, true, zero, ℕ, ◌+◌, ◌++◌, ◌<◌, ◌==◌, ◌∷◌, ◌≡◌, ◌≢◌, ◌≤◌, ◌⊎◌, ◌||◌}
+use Rattle.std.specs.Prelude.{Bool, List, [], false, map, suc, true, zero, ℕ, ◌+◌, ◌++◌, ◌<◌, ◌==◌, ◌∷◌, ◌≡◌, ◌≢◌, ◌≤◌, ◌⊎◌}
 use Rattle.std.proofs.Common.{ap, arith, inl, inr, refl, subst, sym, ◌∙◌}
 use Rattle.std.proofs.lemmas.Bool.{eqb-false, eqb-true}
 use Rattle.std.proofs.lemmas.List.FromFn.{map-range_with_len_more}
-use Rattle.std.proofs.lemmas.List.Sums.{sum_by-cons}
 use Rattle.sim_clock.specs.declared.key.Key.{Key}
 use Rattle.sqs_message.specs.declared.ids.MessageId.{MessageId}
 use Rattle.sqs_message.specs.declared.message.Message.{Message}
 use Rattle.sqs_message.specs.declared.row.Row.{Row}
 use Rattle.sqs_redrive.specs.declared.settings.QueueSettings.{QueueSettings}
 use Rattle.sqs_model.specs.Calls.{in_flight_until, with_message}
-use Rattle.sqs_model.specs.Queue.{Queue, has_number, id_of, in_flight, is_in_flight, numbered, taken_out, with_change}
+use Rattle.sqs_model.specs.Queue.{Queue, has_number, id_of, in_flight, is_in_flight, taken_out, with_change}
 use Rattle.sqs_model.specs.Receive.{received}
 use Rattle.sqs_model.specs.Return.{visible_again}
 use Rattle.sqs_model.specs.Scenario.{Scenario}
@@ -20,9 +19,9 @@ use Rattle.sqs_model.proofs.Ledger.{bit}
 use Rattle.sqs_laws.specs.Words.{flying, names}
 use Rattle.sqs_laws.proofs.Calls.{flights_are, found_old, pushed_found}
 use Rattle.sqs_laws.proofs.Flights as fly
-use Rattle.sqs_laws.proofs.Moves.{Comes, Does, IsStocked, Keeps, Move, Names, Receives, Releases, Tells, changes, comes, does_keep, ends, receives, redrives, releases, stays}
+use Rattle.sqs_laws.proofs.Moves.{Comes, Does, IsStocked, Move, Names, Releases, Tells, changes, comes, ends, receives, redrives, releases, stays}
 use Rattle.sqs_laws.proofs.Said.{count_push, names_apart}
-use Rattle.sqs_laws.proofs.Worlds.{NamesOwn, RowLaw, both}
+use Rattle.sqs_laws.proofs.Worlds.{NamesOwn, RowLaw}
 
 -- how many of the first numbers pass a test
 abbrev pub sums : ℕ → (ℕ → Bool) → ℕ

@@ -1,6 +1,5 @@
 -- Origins: a receive tells the origin with which its message came.
-use Rattle.std.specs.List.{fold}
-use Rattle.std.specs.Prelude.{Bool, List, None, Option, Some, [], false, if◌then◌else◌, true, ℕ, ◌&&◌, ◌++◌, ◌<◌, ◌∷◌, ◌≡◌, ◌≢◌}
+use Rattle.std.specs.Prelude.{Bool, List, None, Some, [], false, if◌then◌else◌, true, ℕ, ◌&&◌, ◌++◌, ◌<◌, ◌∷◌, ◌≡◌, ◌≢◌}
 use Rattle.std.proofs.Common.{ap, arith, refl, subst, sym, true≢false, ◌∙◌}
 use Rattle.std.proofs.lemmas.List.Sums.{fold-append}
 use Rattle.std.proofs.Math.Bool.{and-false}
@@ -23,7 +22,7 @@ use Rattle.sqs_laws.specs.Words.{EachRow, names, origin_of}
 use Rattle.sqs_laws.specs.Words as words
 use Rattle.sqs_laws.proofs.Calls.{found_old}
 use Rattle.sqs_laws.proofs.Each.{each_changed, each_pushed, each_taken}
-use Rattle.sqs_laws.proofs.Moves.{Comes, Does, IsStocked, Move, changes, comes, ends, receives, redrives, releases, stays}
+use Rattle.sqs_laws.proofs.Moves.{Comes, Does, IsStocked, changes, comes, ends, receives, redrives, releases, stays}
 use Rattle.sqs_laws.proofs.Said.{names_apart, names_other, names_same}
 use Rattle.sqs_laws.proofs.Worlds.{NamesOwn, RowLaw, every_row_by}
 
@@ -37,7 +36,7 @@ same_origin : (m : MessageId) (rows : List Row) (r : Row) → words.comes r ≡ 
 same_origin m rows r e = origin_as m rows r false (rw e refl)
 
 -- what the rows so far say of a queue: the origins of its messages
-record Says (rows : List Row) (q : Queue) : Type 0 where
+pub record Says (rows : List Row) (q : Queue) : Type 0 where
   pub told : (n : ℕ) (m : Message) → numbered n q.records ≡ Some m → origin_of (id_of q n) rows ≡ Some m.origin
 
 module _ (key : Key) (rows : List Row) (q : Queue) (r : Row) (p : Queue) (k : IsStocked q) (h : Says rows q) where
@@ -67,7 +66,7 @@ module _ (key : Key) (rows : List Row) (q : Queue) (r : Row) (p : Queue) (k : Is
       origin_as (id_of q q.arrivals) rows r true (rw (d.tells.comes_so, names_same (id_of q q.arrivals) r d.message) refl) ∙ d.told in
       subst (Says (rows ++ r ∷ [])) d.after (record { told = each_pushed IsTold q (others_by d) d.one d.number k own })
 
-  does_tell : Does key q r p → Says (rows ++ r ∷ []) p
+  pub does_tell : Does key q r p → Says (rows ++ r ∷ []) p
   does_tell (stays d) = subst (Says (rows ++ r ∷ [])) d.same (record { told = still d.tells.comes_so })
   does_tell (comes d) = comes_says d
   does_tell (receives d) = changed_says d.number (received key.at d.timeout) (λ m. refl) (λ m. refl) d.one d.names.there d.tells.comes_so d.after
@@ -91,14 +90,14 @@ told_by key rows q r p h (releases d) m e t = absurd (true≢false (sym t ∙ d.
 told_by key rows q r p h (redrives d) m e t = absurd (true≢false (sym t ∙ d.tells.received_so))
 told_by key rows q r p h (ends d) m e t = absurd (true≢false (sym t ∙ d.tells.received_so))
 
-apart : (rows : List Row) (r : Row) (q : Queue) → r.queue ≢ q.site → NamesOwn r → Says rows q → Says (rows ++ r ∷ []) q
+pub apart : (rows : List Row) (r : Row) (q : Queue) → r.queue ≢ q.site → NamesOwn r → Says rows q → Says (rows ++ r ∷ []) q
 apart rows r q d own h =
     record { told = λ n m e. origin_as (id_of q n) rows r false (ap (λ b. words.comes r && b) (names_apart (id_of q n) r own d) ∙ and-false (words.comes r)) ∙ h.told n m e }
 
-opening : (n : ℕ) (settings : QueueSettings) → Says [] (record { site = n; settings = settings; records = []; entries = []; arrivals = 0 })
+pub opening : (n : ℕ) (settings : QueueSettings) → Says [] (record { site = n; settings = settings; records = []; entries = []; arrivals = 0 })
 opening n settings = record { told = λ i m e. cc }
 
-abbrev origins : (s : Scenario) → RowLaw s
+abbrev pub origins : (s : Scenario) → RowLaw s
 origins s =
     record {
       Holds = Says;

@@ -1,8 +1,8 @@
 -- Receipts: each receive gives a new one, and what a delete by one does follows from the rows before it.
-use Rattle.std.specs.Prelude.{All, Bool, Err, List, None, Ok, Option, Result, Some, [], false, if◌then◌else◌, drop, is_none, nat_le, nat_lt, not, slice_get, true, ℕ, ◌&&◌, ◌*◌, ◌+◌, ◌<◌, ◌==◌, ◌∷◌, ◌≡◌, ◌≢◌, ◌≤◌, ◌⊎◌, ◌^◌, ◌||◌}
+use Rattle.std.specs.Prelude.{All, Bool, Err, List, None, Ok, Option, Result, Some, false, if◌then◌else◌, drop, is_none, nat_le, nat_lt, not, slice_get, true, ℕ, ◌&&◌, ◌*◌, ◌+◌, ◌<◌, ◌==◌, ◌≡◌, ◌≢◌, ◌≤◌, ◌⊎◌, ◌^◌, ◌||◌}
 use Rattle.std.specs.Str.{bytes_eq}
 use Rattle.std.proofs.Common.{ap, arith, inl, inr, refl, subst, sym, true≢false, ◌∙◌}
-use Rattle.std.proofs.lemmas.Bool.{and_parts, eq-eqb, eqb-false, eqb-true, leb-true, ne_eqb}
+use Rattle.std.proofs.lemmas.Bool.{and_parts, eq-eqb, eqb-false, eqb-true, leb-true}
 use Rattle.std.proofs.lemmas.Bool.Decides.{nat_tests}
 use Rattle.sim_clock.specs.declared.key.Key.{Key}
 use Rattle.sim_clock.specs.declared.refusal.Refusal.{Refusal}
@@ -11,19 +11,17 @@ use Rattle.sqs_message.specs.declared.ids.MessageId.{MessageId}
 use Rattle.sqs_message.specs.declared.ids.Receipt.{Receipt}
 use Rattle.sqs_message.specs.declared.message.Message.{Message}
 use Rattle.sqs_message.specs.declared.row.Row.{Row}
-use Rattle.sqs_message.specs.declared.row.RowAnswer.{RowAnswer}
 use Rattle.sqs_message.specs.declared.row.RowAnswer.TheVariants as answers
 use Rattle.sqs_message.specs.declared.row.RowKind.{RowKind}
 use Rattle.sqs_message.specs.declared.row.RowKind.TheVariants as kinds
 use Rattle.sqs_message.specs.declared.row.RowReceipt.TheVariants as receipts
 use Rattle.sqs_message.specs.Ids.{fits, numbers_in, read_receipt, receipt_text}
 use Rattle.sqs_redrive.specs.declared.answers.Deleted.{Deleted}
-use Rattle.sqs_redrive.specs.declared.answers.Deleted.TheVariants.{Gone, Kept, Removed}
+use Rattle.sqs_redrive.specs.declared.answers.Deleted.TheVariants.{Kept}
 use Rattle.sqs_redrive.specs.declared.settings.Kind.{Kind}
 use Rattle.sqs_redrive.specs.declared.settings.Kind.TheVariants.{Fifo, Standard}
-use Rattle.sqs_redrive.specs.declared.settings.QueueSettings.{QueueSettings}
 use Rattle.sqs_redrive.specs.declared.transfers.Load.{Load}
-use Rattle.sqs_model.specs.Calls.{change, change_done, change_found, change_here, delete, delete_as, delete_fifo_here, delete_gone, delete_standard_here, in_flight_until, may_be_given, removed, returned}
+use Rattle.sqs_model.specs.Calls.{change, change_done, change_found, change_here, delete_as, delete_fifo_here, delete_gone, delete_standard_here, in_flight_until, may_be_given, removed, returned}
 use Rattle.sqs_model.specs.Queue.{Queue, id_of, is_in_flight, numbered, with_change}
 use Rattle.sqs_model.specs.Return.{released}
 use Rattle.sqs_model.proofs.Branches.{either}
@@ -37,8 +35,7 @@ use Rattle.sqs_laws.proofs.Calls.{found_old}
 use Rattle.sqs_laws.proofs.End as end
 use Rattle.sqs_laws.proofs.Flights as fly
 use Rattle.sqs_laws.proofs.Letters as letter
-use Rattle.sqs_laws.proofs.Moves.{Asks, AsksChange, AsksDelete, changed_answer, Does, IsStocked, Move, Receives, changes, comes, deleted_answer, ends, receives, redrives, releases, stays}
-use Rattle.sqs_laws.proofs.Said.{not_there}
+use Rattle.sqs_laws.proofs.Moves.{Asks, AsksChange, AsksDelete, changed_answer, Does, IsStocked, Move, changes, comes, deleted_answer, ends, receives, redrives, releases, stays}
 use Rattle.sqs_laws.proofs.Worlds.{RowLaw, both, every_row_by}
 
 -- a receipt that is read counts from 1

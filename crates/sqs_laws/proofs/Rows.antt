@@ -1,15 +1,12 @@
 -- The rows of each other call, and of what is due, are a chain of single moves.
 use Rattle.std.specs.Str.{bytes_eq}
-use Rattle.std.specs.Prelude.{All, Bool, Err, List, None, Ok, Option, Result, Some, [], false, find, get_or, if◌then◌else◌, length, map, nat_lt, take, true, ℕ, ◌&&◌, ◌*◌, ◌+◌, ◌++◌, ◌<◌, ◌==◌, ◌∷◌, ◌≡◌, ◌≢◌, ◌||◌}
+use Rattle.std.specs.Prelude.{All, Bool, Err, List, None, Ok, Option, Result, Some, [], false, get_or, if◌then◌else◌, length, nat_lt, take, true, ℕ, ◌&&◌, ◌*◌, ◌+◌, ◌++◌, ◌<◌, ◌==◌, ◌∷◌, ◌≡◌, ◌≢◌, ◌||◌}
 use Rattle.std.proofs.Common.{ap, arith, inl, inr, refl, subst, sym, ◌∙◌}
-use Rattle.std.proofs.lemmas.Bool.{eqb-true}
 use Rattle.std.proofs.lemmas.Bool.Decides.{nat_tests}
-use Rattle.std.proofs.lemmas.List.{append-nil}
-use Rattle.std.proofs.lemmas.List.Elements.{All-cons, All-filter, All-head, All-nil, All-push, All-tail, All-take, All-weaker}
+use Rattle.std.proofs.lemmas.List.Elements.{All-filter, All-head, All-push, All-tail, All-take, All-weaker}
 use Rattle.sim_clock.specs.declared.key.Key.{Key}
 use Rattle.sim_clock.specs.declared.refusal.Refusal.{Refusal}
 use Rattle.sim_clock.specs.declared.refusal.Refusal.TheVariants as refusals
-use Rattle.sim_clock.specs.Firsts.{changed, without}
 use Rattle.sqs_message.specs.declared.ids.MessageId.{MessageId}
 use Rattle.sqs_message.specs.declared.ids.Receipt.{Receipt}
 use Rattle.sqs_message.specs.declared.message.Message.{Message}
@@ -24,7 +21,6 @@ use Rattle.sqs_message.specs.declared.row.RowKind.TheVariants as kinds
 use Rattle.sqs_message.specs.declared.row.RowReceipt.TheVariants as receipts
 use Rattle.sqs_message.specs.Ids.{id_text, read_receipt}
 use Rattle.sqs_redrive.specs.declared.answers.Deleted.{Deleted}
-use Rattle.sqs_redrive.specs.declared.answers.Deleted.TheVariants.{Gone, Kept, Removed}
 use Rattle.sqs_redrive.specs.declared.answers.Sent.{Sent}
 use Rattle.sqs_redrive.specs.declared.answers.Sent.TheVariants.{New, Repeat}
 use Rattle.sqs_redrive.specs.declared.settings.Kind.{Kind}
@@ -37,10 +33,10 @@ use Rattle.sqs_redrive.specs.declared.transfers.Outbound.{Outbound}
 use Rattle.sqs_model.specs.Accounts.{is_deleted, is_expired, origin_in}
 use Rattle.sqs_model.specs.Acts.{change_answered, change_made, change_row, came_back, delete_done, delete_made, send_made, sends, serve_made}
 use Rattle.sqs_model.specs.Actor.{Actor}
-use Rattle.sqs_model.specs.Calls.{change, deduplication_id, delay_of, delete, delete_as, in_flight_until, is_bad_delay, living, living_entries, new_message, returned, scope_of, send_standard, send_unless, send_with, with_entry, with_message}
+use Rattle.sqs_model.specs.Calls.{change, deduplication_id, delay_of, delete, in_flight_until, is_bad_delay, living, living_entries, new_message, returned, scope_of, send_unless, send_with, with_entry, with_message}
 use Rattle.sqs_model.specs.Queue.{Entry, Queue, has_number, id_of, is_in_flight, is_visible, numbered, same_text, taken_out, with_change, with_records}
 use Rattle.sqs_model.specs.Return.{leaves, redrive_of, released, released_found, released_when, visible_again}
-use Rattle.sqs_model.specs.Site.{Core, Effect, and_then, no_effect, number_of, says, with_queue}
+use Rattle.sqs_model.specs.Site.{Core, Effect, and_then, number_of, says, with_queue}
 use Rattle.sqs_model.specs.Arrive.{arrived, brought, enqueued_at, expired_found, forwarded, forwarded_group, is_too_old, sent_of, settled_when}
 use Rattle.sqs_model.specs.Step.{Moved, arrival_done, end_row, load_origin, handle_step, moves, one_sent, expiry_done, handle_expiry, release_done}
 use Rattle.sqs_model.specs.Available.{all_available, all_hosts}
@@ -51,15 +47,15 @@ use Rattle.sqs_redrive.specs.declared.answers.Rest.{Rest}
 use Rattle.sqs_redrive.specs.declared.answers.Rest.TheVariants.{Empty, More, NoSource}
 use Rattle.sqs_model.proofs.Chosen.{Stand, first_apart, first_stand}
 use Rattle.sqs_model.proofs.Numbered.{Apart, other_without}
-use Rattle.sqs_model.proofs.Answered.{IsOfChanges, IsOfDeletes, change_by, delete_by}
-use Rattle.sqs_model.proofs.Branches.{either, either_by}
+use Rattle.sqs_model.proofs.Answered.{change_by, delete_by}
+use Rattle.sqs_model.proofs.Branches.{either}
 use Rattle.sqs_model.proofs.CallWalk.{IsNameless, TellsOfNone}
-use Rattle.sqs_model.proofs.Counts.{changed_twice, find_all, find_picked, without_changed}
+use Rattle.sqs_model.proofs.Counts.{changed_twice, find_all, without_changed}
 use Rattle.sqs_model.proofs.SiteAccounts.{IsFound}
 use Rattle.sqs_laws.specs.Words as words
 use Rattle.sqs_laws.proofs.Calls.{Told, back_told, found_old, one_back, own_changed, pushed_found, pushed_out, tells}
 use Rattle.sqs_laws.proofs.Giving.{visible_available}
-use Rattle.sqs_laws.proofs.Moves.{Asks, AsksChange, AsksDelete, Chain, IsNoReceipt, changed_answer, deleted_answer, chain_keeps, Comes, Does, Ends, IsStocked, Keeps, Move, Names, Stays, Tells, Changes, changes, chain_append, comes, ends, one_move, stays}
+use Rattle.sqs_laws.proofs.Moves.{Asks, AsksChange, AsksDelete, Chain, IsNoReceipt, changed_answer, deleted_answer, chain_keeps, Does, IsStocked, Keeps, Move, Stays, Tells, changes, chain_append, comes, ends, one_move, stays}
 
 -- what a row of none tells
 abbrev SaysNothing : RowKind → RowAnswer → Type 0

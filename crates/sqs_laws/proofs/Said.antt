@@ -1,23 +1,23 @@
 -- What the rows so far say of a message, with one more row.
-use Rattle.std.specs.List.{list_any, sum_by}
-use Rattle.std.specs.Prelude.{All, Bool, List, None, Option, Some, [], cond, count_by, false, is_none, true, ℕ, ◌&&◌, ◌+◌, ◌++◌, ◌<◌, ◌==◌, ◌∷◌, ◌≡◌, ◌≢◌, ◌≤◌, ◌||◌}
-use Rattle.std.proofs.Common.{ap, arith, refl, subst, sym, ◌∙◌}
-use Rattle.std.proofs.Math.Bool.{and-false, and-true, or-false, or-true}
+use Rattle.std.specs.List.{list_any}
+use Rattle.std.specs.Prelude.{All, Bool, List, None, Option, Some, [], cond, count_by, false, true, ℕ, ◌&&◌, ◌+◌, ◌++◌, ◌<◌, ◌==◌, ◌∷◌, ◌≡◌, ◌≢◌, ◌≤◌, ◌||◌}
+use Rattle.std.proofs.Common.{ap, arith, refl, sym, ◌∙◌}
+use Rattle.std.proofs.Math.Bool.{and-false, or-false, or-true}
 use Rattle.std.proofs.lemmas.Bool.{eq-eqb, eqb-true, ne_eqb}
 use Rattle.std.proofs.lemmas.Bool.Decides.{nat_tests}
 use Rattle.std.proofs.lemmas.List.Folds.{list_any-append}
 use Rattle.std.proofs.lemmas.List.Elements.{All-head, All-tail}
 use Rattle.std.proofs.lemmas.List.Sums.{sum_by-append, sum_by-cons}
-use Rattle.sim_clock.specs.Firsts.{changed, without}
+use Rattle.sim_clock.specs.Firsts.{without}
 use Rattle.sqs_message.specs.declared.ids.MessageId.{MessageId}
 use Rattle.sqs_message.specs.declared.message.Message.{Message}
 use Rattle.sqs_message.specs.declared.row.Row.{Row}
 use Rattle.sqs_message.specs.declared.row.RowAnswer.{RowAnswer}
 use Rattle.sqs_message.specs.declared.row.RowAnswer.TheVariants as answers
 use Rattle.sqs_model.specs.Accounts.{same_id}
-use Rattle.sqs_model.specs.Queue.{Queue, has_number, id_of, numbered}
+use Rattle.sqs_model.specs.Queue.{has_number, numbered}
 use Rattle.sqs_model.proofs.Ledger.{bit}
-use Rattle.sqs_model.proofs.Numbered.{Climbs, all_above, climbs_from}
+use Rattle.sqs_model.proofs.Numbered.{Climbs}
 use Rattle.sqs_laws.specs.Words.{comes, comings, has_left, is_gone, is_new, leaves, names, received, times}
 use Rattle.sqs_laws.proofs.Worlds.{NamesOwn}
 

@@ -1,25 +1,23 @@
 -- A law that each single move keeps holds of all rows of a run.
 use Rattle.std.specs.List.{enumerate_from}
-use Rattle.std.specs.Prelude.{All, Bool, List, None, Option, Some, [], false, filter, get_or, if◌then◌else◌, map, nat_le, slice_get, suc, true, zero, ℕ, ◌+◌, ◌++◌, ◌<◌, ◌==◌, ◌∷◌, ◌≡◌, ◌≢◌, ◌≤◌}
+use Rattle.std.specs.Prelude.{All, List, None, Option, Some, [], false, filter, get_or, if◌then◌else◌, map, nat_le, slice_get, suc, true, zero, ℕ, ◌+◌, ◌++◌, ◌<◌, ◌==◌, ◌∷◌, ◌≡◌, ◌≢◌, ◌≤◌}
 use Rattle.std.proofs.Common.{ap, arith, refl, subst, sym, ◌∙◌}
 use Rattle.std.proofs.lemmas.Bool.{leb-true}
 use Rattle.std.proofs.lemmas.List.{append-nil, append_assoc}
-use Rattle.std.proofs.lemmas.List.Elements.{All-cons, All-filter, All-head, All-map, All-nil, All-tail, All-weaker}
+use Rattle.std.proofs.lemmas.List.Elements.{All-cons, All-head, All-map, All-nil, All-tail, All-weaker}
 use Rattle.sim_clock.specs.declared.key.Key.{Key}
 use Rattle.sqs_message.specs.declared.ids.MessageId.{MessageId}
 use Rattle.sqs_message.specs.declared.message.Message.{Message}
 use Rattle.sqs_message.specs.declared.row.Row.{Row}
 use Rattle.sqs_redrive.specs.declared.settings.QueueSettings.{QueueSettings}
 use Rattle.sqs_redrive.specs.declared.transfers.Outbound.{Outbound}
-use Rattle.sqs_model.specs.declared.agents.ActorSettings.{ActorSettings}
-use Rattle.sqs_model.specs.Actor.{Actor}
 use Rattle.sqs_model.specs.Dues.{dues, least_due}
 use Rattle.sqs_model.specs.Queue.{Entry, Queue}
 use Rattle.sqs_model.specs.Run.{IsRunOf, Run, after}
 use Rattle.sqs_model.specs.Scenario.{Scenario, numbered_actors, opening, opening_actor, opening_site}
-use Rattle.sqs_model.specs.Site.{Core, Site, accepted, number_of}
-use Rattle.sqs_model.specs.Step.{Handled, handled, is_arrival}
-use Rattle.sqs_model.specs.World.{Stepped, due_by, world_due, delivered, delivered_one, handled_among, handled_here, handled_there, is_due, next_due, run_on, stepped_at}
+use Rattle.sqs_model.specs.Site.{Site, accepted, number_of}
+use Rattle.sqs_model.specs.Step.{Handled, handled}
+use Rattle.sqs_model.specs.World.{Stepped, due_by, world_due, delivered, delivered_one, handled_among, handled_here, handled_there, is_due, next_due, stepped_at}
 use Rattle.sqs_model.proofs.Branches.{either}
 use Rattle.sqs_model.proofs.WorldAccounts.{due_fits}
 use Rattle.sqs_model.proofs.WorldMoves.{is_due_least, least_in}
@@ -94,12 +92,12 @@ module _ (scenario : Scenario) (law : RowLaw scenario) where
       }
 
   -- a site of a run
-  record IsGood (rows : List Row) (s : Site) : Type 0 where
+  pub record IsGood (rows : List Row) (s : Site) : Type 0 where
     pub order : IsInOrder s.core
     pub holds : Holds rows s.core.queue
 
   -- sites of a world are numbered
-  abbrev AreNumbered : ℕ → List Site → Type 0
+  abbrev pub AreNumbered : ℕ → List Site → Type 0
   AreNumbered n [] = Unit {0}
   AreNumbered n (s ∷ ss) = (number_of s.core ≡ n) × AreNumbered (n + 1) ss
 
@@ -223,13 +221,17 @@ module _ (scenario : Scenario) (law : RowLaw scenario) where
       let own : slice_get scenario.queues n ≡ Some q = let same : n + 0 ≡ n = omega arith in subst (λ k. slice_get scenario.queues k ≡ Some q) same (f 0 q refl) in
       (All-cons (IsGood []) _ _ (record { order = opening_order (n, q); holds = law.opens n q own }) rest.0, (refl, rest.1))
 
-  every_row_after : (n : ℕ) → EachRow (after scenario.horizon n (opening scenario)).rows Meets
-  every_row_after n =
+  run_lawful : (r : Run) → IsRunOf scenario r → IsLawful r
+  run_lawful r is =
       let o = opens 0 scenario.queues (λ i q e. let same : i ≡ 0 + i = omega arith in subst (λ k. slice_get scenario.queues k ≡ Some q) same e) in
-      each_row Meets (after scenario.horizon n (opening scenario)).rows (after_lawful n (opening scenario) (record { each = tt; good = o.0; numbers = o.1 })).each
+      subst IsLawful is.reached (after_lawful is.steps (opening scenario) (record { each = tt; good = o.0; numbers = o.1 }))
 
   pub every_row : (r : Run) → IsRunOf scenario r → EachRow r.rows Meets
-  every_row r is = subst (λ (x : Run). EachRow x.rows Meets) is.reached (every_row_after is.steps)
+  every_row r is = each_row Meets r.rows (run_lawful r is).each
+
+  -- what holds of each site at the end
+  pub every_site : (r : Run) → IsRunOf scenario r → All (IsGood r.rows) r.sites × AreNumbered 0 r.sites
+  every_site r is = let l : IsLawful r = run_lawful r is in (l.good, l.numbers)
 
 -- what a law says of each row, by its move
 pub every_row_by :

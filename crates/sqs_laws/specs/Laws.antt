@@ -1,6 +1,7 @@
 -- The rules of SQS as laws of the log: of its rows, in order, and of the settings of its scenario, and of nothing
 -- else.
-use Rattle.std.specs.Prelude.{All, Bool, IsTrue, List, None, Some, false, true, if◌then◌else◌, nat_lt, not, slice_get, ℕ, ◌&&◌, [], ◌+◌, ◌++◌, ◌<◌, ◌==◌, ◌∷◌, ◌≡◌, ◌≤◌, ◌⊎◌, ◌||◌}
+use Rattle.std.specs.List.{range_with_len}
+use Rattle.std.specs.Prelude.{All, Bool, IsTrue, List, None, Some, false, flat_map, length, map, true, if◌then◌else◌, nat_lt, not, slice_get, ℕ, ◌&&◌, [], ◌+◌, ◌++◌, ◌<◌, ◌==◌, ◌∷◌, ◌≡◌, ◌≤◌, ◌⊎◌, ◌||◌}
 use Rattle.sim_clock.specs.declared.refusal.Refusal.TheVariants as refusals
 use Rattle.sqs_message.specs.declared.ids.MessageId.{MessageId}
 use Rattle.sqs_message.specs.declared.ids.Origin.{Origin}
@@ -14,8 +15,9 @@ use Rattle.sqs_redrive.specs.declared.settings.Kind.{Kind}
 use Rattle.sqs_redrive.specs.declared.settings.Kind.TheVariants.{Fifo, Standard}
 use Rattle.sqs_redrive.specs.declared.settings.Policy.{Policy}
 use Rattle.sqs_redrive.specs.declared.settings.QueueSettings.{QueueSettings}
+use Rattle.sqs_model.specs.declared.finals.FinalMessage.{FinalMessage}
 use Rattle.sqs_model.specs.Scenario.{Scenario}
-use Rattle.sqs_laws.specs.Words.{EachNaming, EachRow, changed, comes, comings, flying, has_left, in_flight_at, is_change, is_delete, is_gone, is_move, is_redrive, is_release, may_follow, origin_of, received, times}
+use Rattle.sqs_laws.specs.Words.{EachNaming, EachRow, changed, comes, comings, flying, has_left, in_flight_at, is_change, is_delete, is_gone, is_in_flight, is_move, is_redrive, is_release, may_follow, origin_of, received, that_stay, times}
 
 -- The end is the end. The messages that come to a queue are numbered from 0 on, and no row names one before it comes.
 -- Once it was deleted, has expired, or left for another queue, only answers gone and repeat and a consumer's fail and
@@ -123,3 +125,12 @@ pub record KeepsTheRules (s : Scenario) (rows : List Row) : Type 0 where
   pub receipts : Receipts s rows
   pub origins : Origins rows
   pub in_time : InTime s rows
+
+-- What is left. The final queues have just the messages that came to a queue and have not left it, queue by queue in the
+-- order of their numbers. One of them is in flight just if the rows say so. It was received as often as they say, and has
+-- the origin that they tell.
+pub record WhatIsLeft (s : Scenario) (rows : List Row) (left : List FinalMessage) : Type 0 where
+  pub messages : map (λ m. m.id) left ≡ flat_map (λ n. that_stay n rows) (range_with_len 0 (length s.queues))
+  pub in_flight : All (λ m. is_in_flight m.place ≡ flying m.id rows) left
+  pub received : All (λ m. m.receives ≡ times m.id rows) left
+  pub origins : All (λ m. origin_of m.id rows ≡ Some m.origin) left

@@ -1,8 +1,10 @@
 -- What rows say: their kinds and answers, and what the rows before one row say of its message.
 use Rattle.std.specs.List.{list_any, range_with_len}
-use Rattle.std.specs.Prelude.{Bool, List, None, Option, Some, count_by, false, fold, if◌then◌else◌, is_some, map, not, true, ℕ, ◌&&◌, ◌++◌, ◌==◌, ◌∷◌, ◌≡◌, ◌||◌}
+use Rattle.std.specs.Prelude.{Bool, List, None, Option, Some, count_by, false, filter, fold, if◌then◌else◌, is_some, map, not, true, ℕ, ◌&&◌, ◌++◌, ◌==◌, ◌∷◌, ◌≡◌, ◌||◌}
 use Rattle.sqs_message.specs.declared.ids.MessageId.{MessageId}
 use Rattle.sqs_message.specs.declared.ids.Origin.{Origin}
+use Rattle.sqs_message.specs.declared.message.Place.{Place}
+use Rattle.sqs_message.specs.declared.message.Place.TheVariants.{InFlight}
 use Rattle.sqs_message.specs.declared.row.Row.{Row}
 use Rattle.sqs_message.specs.declared.row.RowAnswer.{RowAnswer}
 use Rattle.sqs_message.specs.declared.row.RowAnswer.TheVariants as answers
@@ -112,10 +114,22 @@ flight m rows =
 abbrev pub flying : MessageId → List Row → Bool
 flying m rows = is_some (flight m rows)
 
+-- the messages that came to a queue, in the order of their numbers
+abbrev pub that_came : ℕ → List Row → List MessageId
+that_came n rows = map (λ i. record { site = n; number = i }) (range_with_len 0 (comings n rows))
+
+-- those of them that have not left it
+abbrev pub that_stay : ℕ → List Row → List MessageId
+that_stay n rows = filter (λ m. not (has_left m rows)) (that_came n rows)
+
+-- whether a message is in flight where it is at the end
+abbrev pub is_in_flight : Place → Bool
+is_in_flight InFlight = true
+is_in_flight _ = false
+
 -- how many of the messages that came to a queue are in flight
 abbrev pub in_flight_at : ℕ → List Row → ℕ
-in_flight_at n rows =
-    count_by (λ m. flying m rows) (map (λ i. record { site = n; number = i }) (range_with_len 0 (comings n rows)))
+in_flight_at n rows = count_by (λ m. flying m rows) (that_came n rows)
 
 -- the rows that may still name a message that has left
 abbrev pub may_follow : Row → Bool

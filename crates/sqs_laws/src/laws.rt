@@ -1,7 +1,13 @@
 //! Laws of the rows of a run. Each function does nothing: its contract is the law.
-ghost use Rattle.sqs_laws.specs.Log.{LogKeepsTheRules};
+ghost use Rattle.sqs_laws.specs.Log.{LogKeepsTheRules, LogSaysWhatIsLeft};
 
 /// The log of every sound scenario keeps the rules.
 pub fn log_keeps_the_rules()
     ensures { LogKeepsTheRules }
+{}
+
+/// The log of every scenario whose queues are in their ranges says which messages are left at the
+/// end, which of them are in flight, and how often each was received.
+pub fn log_says_what_is_left()
+    ensures { LogSaysWhatIsLeft }
 {}

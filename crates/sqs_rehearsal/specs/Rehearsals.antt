@@ -4,8 +4,9 @@ use Rattle.sim_clock.specs.declared.refusal.Refusal.{Refusal}
 use Rattle.sqs_formats.specs.Output.{log_of}
 use Rattle.sqs_formats.specs.Rows.{line, log_header}
 use Rattle.sqs_formats.specs.Scenario.{released, scenario_upto}
-use Rattle.sqs_laws.specs.Laws.{KeepsTheRules}
+use Rattle.sqs_laws.specs.Laws.{KeepsTheRules, WhatIsLeft}
 use Rattle.sqs_model.specs.Accounts.{EachHasOnePlace, NoOtherHasPlace}
+use Rattle.sqs_model.specs.Finals.{finals_of}
 use Rattle.sqs_model.specs.Limits.{IsOver}
 use Rattle.sqs_model.specs.Run.{IsRunOf, Run}
 use Rattle.sqs_model.specs.Scenario.{Scenario}
@@ -35,7 +36,7 @@ abbrev pub request : List ℕ → List (List ℕ × List ℕ) → Options → Re
 request = request_upto released
 
 -- a request's scenario, split as asked, and its one-list run: each accepted message is in one place, no other in any,
--- and the rows keep the rules of SQS
+-- the rows keep the rules of SQS, and they say which messages are left
 pub record Rehearsed (q : Request) : Type 0 where
   pub scenario : Scenario
   pub run : Run
@@ -45,6 +46,7 @@ pub record Rehearsed (q : Request) : Type 0 where
   pub one_place : EachHasOnePlace run.sites run.rows
   pub no_other : NoOtherHasPlace run.sites run.rows
   pub rules : KeepsTheRules scenario run.rows
+  pub left : WhatIsLeft scenario run.rows (finals_of run.sites).messages
 
 -- a whole rehearsal: the one-list run takes no count past the limit; the writers got the log, and finals and report, and
 -- were flushed after that

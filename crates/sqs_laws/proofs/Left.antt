@@ -1,0 +1,223 @@
+-- What is left: the final queues have just the messages that came and have not left, as the rows tell of them.
+use Rattle.std.specs.List.{enumerate_from, range_with_len}
+use Rattle.std.specs.Prelude.{All, Bool, List, None, Option, Some, [], cond, false, filter, flat_map, is_none, is_some, length, map, not, suc, true, zero, ℕ, ◌+◌, ◌++◌, ◌<◌, ◌==◌, ◌∷◌, ◌≡◌, ◌≤◌}
+use Rattle.std.proofs.Common.{ap, arith, refl, subst, sym, ◌∙◌}
+use Rattle.std.proofs.lemmas.Bool.{eqb-false, eqb-true}
+use Rattle.std.proofs.lemmas.List.{length-map, map-append}
+use Rattle.std.proofs.lemmas.List.Elements.{All-append, All-cons, All-head, All-map, All-nil, All-tail, All-weaker}
+use Rattle.std.proofs.lemmas.List.FromFn.{length-enumerate_from}
+use Rattle.sim_clock.specs.declared.key.Key.{Key}
+use Rattle.sqs_message.specs.declared.ids.MessageId.{MessageId}
+use Rattle.sqs_message.specs.declared.message.Message.{Message}
+use Rattle.sqs_message.specs.declared.row.Row.{Row}
+use Rattle.sqs_redrive.specs.declared.transfers.Outbound.{Outbound}
+use Rattle.sqs_model.specs.declared.finals.FinalMessage.{FinalMessage}
+use Rattle.sqs_model.specs.Dues.{least_due}
+use Rattle.sqs_model.specs.Finals.{final_message, finals_of, messages_at}
+use Rattle.sqs_model.specs.Queue.{Queue, has_number, id_of, is_in_flight as flies_there, numbered}
+use Rattle.sqs_model.specs.Run.{IsRunOf, Run, after}
+use Rattle.sqs_model.specs.Scenario.{Scenario, opening, opening_site}
+use Rattle.sqs_model.specs.Site.{Site, number_of}
+use Rattle.sqs_model.specs.Step.{handled}
+use Rattle.sqs_model.specs.Valid.{IsQueueSettings}
+use Rattle.sqs_model.specs.World.{Stepped, delivered, delivered_one, handled_among, handled_here, handled_there, is_due, next_due, stepped_at}
+use Rattle.sqs_model.proofs.Branches.{either}
+use Rattle.sqs_model.proofs.Numbered.{Climbs, climbs_from, has_its_number}
+use Rattle.sqs_laws.specs.Laws.{WhatIsLeft}
+use Rattle.sqs_laws.specs.Words.{comings, flying, has_left, is_in_flight, origin_of, that_stay, times}
+use Rattle.sqs_laws.proofs.End as end
+use Rattle.sqs_laws.proofs.Flights as fly
+use Rattle.sqs_laws.proofs.Letters as letters
+use Rattle.sqs_laws.proofs.Moves.{IsStocked}
+use Rattle.sqs_laws.proofs.Origins as origins
+use Rattle.sqs_laws.proofs.Worlds.{AreNumbered, IsGood, RowLaw, both, every_site}
+
+-- a run has as many sites at its end as at its opening
+same_among : (key : Key) (sites : List Site) → length (handled_among key sites).sites ≡ length sites
+same_among key [] = refl
+same_among key (s ∷ ss) =
+    either (λ (t : Stepped). length t.sites ≡ suc (length ss)) (is_due key (least_due s)) (handled_here (handled key s) ss)
+    (handled_there s (handled_among key ss)) refl (ap suc (same_among key ss))
+
+same_delivered : (os : List Outbound) (sites : List Site) → length (delivered os sites) ≡ length sites
+same_delivered [] sites = refl
+same_delivered (o ∷ os) sites = same_delivered os (map (delivered_one o) sites) ∙ length-map sites (delivered_one o)
+
+same_stepped : (r : Run) (due : Option Key) → length (stepped_at r due).sites ≡ length r.sites
+same_stepped r None = refl
+same_stepped r (Some key) = let t : Stepped = handled_among key r.sites in same_delivered t.sent t.sites ∙ same_among key r.sites
+
+same_after : (horizon n : ℕ) (start : List Site) → length (after horizon n start).sites ≡ length start
+same_after horizon zero start = refl
+same_after horizon (suc n) start =
+    let r : Run = after horizon n start in same_stepped r (next_due horizon r.sites) ∙ same_after horizon n start
+
+all_sites : (s : Scenario) (r : Run) → IsRunOf s r → length r.sites ≡ length s.queues
+all_sites s r is =
+    let many : length (after s.horizon is.steps (opening s)).sites ≡ length s.queues =
+    same_after s.horizon is.steps (opening s) ∙ length-map (enumerate_from 0 s.queues) (opening_site s) ∙ length-enumerate_from 0 s.queues in
+    subst (λ (x : Run). length x.sites ≡ length s.queues) is.reached many
+
+-- a message of another number is not the one that is looked for
+found_by : (b : Bool) (i : ℕ) (m : Message) (ms : List Message) → has_number i m ≡ b → is_some (numbered i (m ∷ ms)) ≡ cond b true (is_some (numbered i ms))
+found_by true i m ms e = rw e refl
+found_by false i m ms e = rw e refl
+
+none_below : (i : ℕ) (ms : List Message) → Climbs (i + 1) ms → is_some (numbered i ms) ≡ false
+none_below i [] h = refl
+none_below i (m ∷ ms) h =
+    let far : has_number i m ≡ false = grind (arith, h.0) in
+    found_by false i m ms far ∙ none_below i ms (climbs_from (i + 1) (m.number + 1) ms (omega (arith, h.0)) h.1)
+
+-- the numbers from one on at which there is a message are those of the messages, if these go up from there
+module _ (q : Queue) (g : MessageId → Bool) where
+  abbrev id : ℕ → MessageId
+  id i = record { site = q.site; number = i }
+
+  abbrev Agrees : ℕ → ℕ → List Message → Type 0
+  Agrees low many ms = (i : ℕ) → low ≤ i → i < low + many → g (id i) ≡ is_some (numbered i ms)
+
+  kept_at : (b : Bool) (many low : ℕ) → g (id low) ≡ b → filter g (map id (range_with_len low (suc many))) ≡ cond b (id low ∷ filter g (map id (range_with_len (low + 1) many))) (filter g (map id (range_with_len (low + 1) many)))
+  kept_at true many low e = rw e refl
+  kept_at false many low e = rw e refl
+
+  -- that this is so
+  abbrev Stays : ℕ → ℕ → Type 0
+  Stays low many = (ms : List Message) → Climbs low ms → All (λ m. m.number < low + many) ms → Agrees low many ms → map (λ m. id_of q m.number) ms ≡ filter g (map id (range_with_len low many))
+
+  fewer : (many low : ℕ) (ms : List Message) → All (λ m. m.number < low + suc many) ms → All (λ m. m.number < low + 1 + many) ms
+  fewer many low ms l = All-weaker (λ m. m.number < low + suc many) (λ m. m.number < low + 1 + many) (λ m k. omega (arith, k)) ms l
+
+  stays_at : (b : Bool) (many low : ℕ) (m : Message) (ms : List Message) → Stays (low + 1) many → Climbs low (m ∷ ms) → All (λ x. x.number < low + suc many) (m ∷ ms) → Agrees low (suc many) (m ∷ ms) → (m.number == low) ≡ b → map (λ x. id_of q x.number) (m ∷ ms) ≡ filter g (map id (range_with_len low (suc many)))
+  stays_at true many low m ms on c l h e =
+      let is : m.number ≡ low = eqb-true m.number low e in
+      let kept : g (id low) ≡ true = h low (omega arith) (omega arith) ∙ found_by true low m ms e in
+      let rest : map (λ x. id_of q x.number) ms ≡ filter g (map id (range_with_len (low + 1) many)) =
+      on ms (subst (λ n. Climbs (n + 1) ms) is c.1) (fewer many low ms (All-tail (λ x. x.number < low + suc many) m ms l))
+      (λ i a b. h i (omega (arith, a)) (omega (arith, b)) ∙ found_by false i m ms (let far : has_number i m ≡ false = grind (arith, is, a) in far)) in
+      ap (λ n. id n ∷ map (λ x. id_of q x.number) ms) is ∙ ap (λ xs. id low ∷ xs) rest ∙ sym (kept_at true many low kept)
+  stays_at false many low m ms on c l h e =
+      let more : low + 1 ≤ m.number = grind (arith, eqb-false m.number low e, c.0) in
+      let up : Climbs (low + 1) (m ∷ ms) = (more, c.1) in
+      let none : g (id low) ≡ false = h low (omega arith) (omega arith) ∙ none_below low (m ∷ ms) up in
+      on (m ∷ ms) up (fewer many low (m ∷ ms) l) (λ i a b. h i (omega (arith, a)) (omega (arith, b))) ∙ sym (kept_at false many low none)
+
+  stays_from : (many low : ℕ) → Stays low many
+  stays_from zero low [] c l h = refl
+  stays_from zero low (m ∷ ms) c l h =
+      let less : m.number < low + 0 = All-head (λ x. x.number < low + 0) m ms l in absurd (omega (arith, c.0, less))
+  stays_from (suc many) low [] c l h =
+      let none : g (id low) ≡ false = h low (omega arith) (omega arith) in
+      stays_from many (low + 1) [] tt (fewer many low [] l) (λ i a b. h i (omega (arith, a)) (omega (arith, b))) ∙ sym (kept_at false many low none)
+  stays_from (suc many) low (m ∷ ms) c l h = stays_at (m.number == low) many low m ms (stays_from many (low + 1)) c l h refl
+
+from_none : (many : ℕ) (ms : List Message) → All (λ m. m.number < many) ms → All (λ m. m.number < 0 + many) ms
+from_none many ms l = All-weaker (λ m. m.number < many) (λ m. m.number < 0 + many) (λ m k. omega (arith, k)) ms l
+
+-- what holds of each message of its number holds of all
+other_found : (b : Bool) (n : ℕ) (m x : Message) (ms : List Message) → Climbs (m.number + 1) ms → has_number n m ≡ b → numbered n ms ≡ Some x → numbered n (m ∷ ms) ≡ Some x
+other_found true n m x ms c e f =
+    let is : m.number ≡ n = eqb-true m.number n e in
+    let none : is_some (numbered n ms) ≡ false = none_below n ms (subst (λ k. Climbs (k + 1) ms) is c) in
+    let some : is_some (numbered n ms) ≡ true = ap is_some f in
+    cc
+other_found false n m x ms c e f = rw e f
+
+own_found : (m : Message) (ms : List Message) → numbered m.number (m ∷ ms) ≡ Some m
+own_found m ms = let own : has_number m.number m ≡ true = has_its_number m in rw own refl
+
+found_all : (P : Message → Type 0) (low : ℕ) (ms : List Message) → Climbs low ms → ((n : ℕ) (m : Message) → numbered n ms ≡ Some m → n ≡ m.number → P m) → All P ms
+found_all P low [] c h = All-nil P
+found_all P low (m ∷ ms) c h =
+    All-cons P m ms (h m.number m (own_found m ms) refl)
+    (found_all P (m.number + 1) ms c.1 (λ n x e k. h n x (other_found (has_number n m) n m x ms c.1 refl e) k))
+
+map_finals : (q : Queue) (ms : List Message) → map (λ (m : FinalMessage). m.id) (map (final_message q) ms) ≡ map (λ m. id_of q m.number) ms
+map_finals q [] = refl
+map_finals q (m ∷ ms) = ap (λ ids. id_of q m.number ∷ ids) (map_finals q ms)
+
+not_none : (o : Option Message) → not (is_none o) ≡ is_some o
+not_none None = refl
+not_none (Some m) = refl
+
+module _ (s : Scenario) (valid : All IsQueueSettings s.queues) where
+  abbrev told : RowLaw s
+  told = both s (both s (end.the_end s) (fly.flights s)) (both s (letters.letters s valid) (origins.origins s))
+
+  module _ (rows : List Row) where
+    -- what the rows tell of a message that is left
+    abbrev Flies : FinalMessage → Type 0
+    Flies m = is_in_flight m.place ≡ flying m.id rows
+
+    abbrev Received : FinalMessage → Type 0
+    Received m = m.receives ≡ times m.id rows
+
+    abbrev HasOrigin : FinalMessage → Type 0
+    HasOrigin m = origin_of m.id rows ≡ Some m.origin
+
+    -- it is told of each message of a site
+    tells_all : (q : Queue) (Q : FinalMessage → Type 0) → IsStocked q → ((n : ℕ) (m : Message) → numbered n q.records ≡ Some m → n ≡ m.number → Q (final_message q m)) → All Q (map (final_message q) q.records)
+    tells_all q Q k h = All-map Q (final_message q) q.records (found_all (λ m. Q (final_message q m)) 0 q.records k.ordered h)
+
+    -- the messages of one site
+    record SaysSite (x : Site) : Type 0 where
+      pub ids : map (λ (m : FinalMessage). m.id) (messages_at x) ≡ that_stay (number_of x.core) rows
+      pub flies : All Flies (messages_at x)
+      pub received : All Received (messages_at x)
+      pub origins : All HasOrigin (messages_at x)
+
+    site_says : (x : Site) → IsGood s told rows x → SaysSite x
+    site_says x g =
+        let q : Queue = x.core.queue in
+        let k : IsStocked q = g.order.stocked in
+        let came : comings q.site rows ≡ q.arrivals = g.holds.0.0.came in
+        let stays : (i : ℕ) → 0 ≤ i → i < 0 + q.arrivals → not (has_left (id_of q i) rows) ≡ is_some (numbered i q.records) =
+        λ i a b. ap not (g.holds.0.0.left i (omega (arith, b))) ∙ not_none (numbered i q.records) in
+        record {
+          ids =
+              map_finals q q.records ∙ stays_from q (λ m. not (has_left m rows)) q.arrivals 0 q.records k.ordered (from_none q.arrivals q.records k.given_out) stays
+              ∙ ap (λ n. filter (λ m. not (has_left m rows)) (map (id q (λ m. true)) (range_with_len 0 n))) (sym came);
+          flies = tells_all q Flies k (λ n m e o. sym (subst (λ j. flying (id_of q j) rows ≡ flies_there m) o (g.holds.0.1.flies n m e)));
+          received = tells_all q Received k (λ n m e o. sym (subst (λ j. times (id_of q j) rows ≡ m.receives) o (g.holds.1.0.received n m e)));
+          origins = tells_all q HasOrigin k (λ n m e o. subst (λ j. origin_of (id_of q j) rows ≡ Some m.origin) o (g.holds.1.1.told n m e));
+        }
+
+    -- the messages of all sites
+    record SaysSites (n : ℕ) (sites : List Site) : Type 0 where
+      pub ids : map (λ (m : FinalMessage). m.id) (flat_map messages_at sites) ≡ flat_map (λ i. that_stay i rows) (range_with_len n (length sites))
+      pub flies : All Flies (flat_map messages_at sites)
+      pub received : All Received (flat_map messages_at sites)
+      pub origins : All HasOrigin (flat_map messages_at sites)
+
+    sites_say : (n : ℕ) (sites : List Site) → All (IsGood s told rows) sites → AreNumbered s told n sites → SaysSites n sites
+    sites_say n [] g a =
+        record {
+          ids = refl;
+          flies = All-nil Flies;
+          received = All-nil Received;
+          origins = All-nil HasOrigin;
+        }
+    sites_say n (x ∷ xs) g a =
+        let one : SaysSite x = site_says x (All-head (IsGood s told rows) x xs g) in
+        let rest : SaysSites (n + 1) xs = sites_say (n + 1) xs (All-tail (IsGood s told rows) x xs g) a.1 in
+        record {
+          ids =
+              map-append (λ (m : FinalMessage). m.id) (messages_at x) (flat_map messages_at xs)
+              ∙ ap (λ ids. ids ++ map (λ (m : FinalMessage). m.id) (flat_map messages_at xs)) (one.ids ∙ ap (λ i. that_stay i rows) a.0)
+              ∙ ap (λ ids. that_stay n rows ++ ids) rest.ids;
+          flies = All-append Flies (messages_at x) (flat_map messages_at xs) one.flies rest.flies;
+          received = All-append Received (messages_at x) (flat_map messages_at xs) one.received rest.received;
+          origins = All-append HasOrigin (messages_at x) (flat_map messages_at xs) one.origins rest.origins;
+        }
+
+  pub left_is_told : (r : Run) → IsRunOf s r → WhatIsLeft s r.rows (finals_of r.sites).messages
+  unfolding finals_of
+  left_is_told r is =
+      let every = every_site s told r is in
+      let says : SaysSites r.rows 0 r.sites = sites_say r.rows 0 r.sites every.0 every.1 in
+      record {
+        messages = says.ids ∙ ap (λ n. flat_map (λ i. that_stay i r.rows) (range_with_len 0 n)) (all_sites s r is);
+        in_flight = says.flies;
+        received = says.received;
+        origins = says.origins;
+      }
