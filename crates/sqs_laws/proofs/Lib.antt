@@ -17,3 +17,5 @@ pub mod Limit
 pub mod InFlight
 pub mod Origins
 pub mod Left
+pub mod Apart
+pub mod Reach

@@ -1,5 +1,6 @@
 //! Laws of the rows of a run. Each function does nothing: its contract is the law.
 ghost use Rattle.sqs_laws.specs.Log.{LogKeepsTheRules, LogSaysWhatIsLeft};
+ghost use Rattle.sqs_laws.specs.Reach.{ChangesStayInReach};
 
 /// The log of every sound scenario keeps the rules.
 pub fn log_keeps_the_rules()
@@ -10,4 +11,10 @@ pub fn log_keeps_the_rules()
 /// end, which of them are in flight, and how often each was received.
 pub fn log_says_what_is_left()
     ensures { LogSaysWhatIsLeft }
+{}
+
+/// Two scenarios may differ only at queues from which no way leads to some others. At these others
+/// they give the same rows, in the same order, and leave the same messages.
+pub fn changes_stay_in_reach()
+    ensures { ChangesStayInReach }
 {}
