@@ -174,7 +174,7 @@ module _ {Site Row Transfer : Type 0} {engine : Engine Site Row Transfer} {condi
         }
 
     -- the sites there after some handlings of the whole run, and after some of their own
-    record Projected (r : Run engine) : Type 0 where
+    pub record Projected (r : Run engine) : Type 0 where
       pub fine : Each Fine r.sites
       pub steps : ℕ
       pub same : after engine setting.horizon steps (part_of engine owner 0 setting.opening) ≡ part_run r
@@ -188,7 +188,7 @@ module _ {Site Row Transfer : Type 0} {engine : Engine Site Row Transfer} {condi
           | inr x ↦ record { fine = s.fine; steps = p.steps; same = p.same ∙ x }
         ]
 
-    projected : (n : ℕ) → Projected (after engine setting.horizon n setting.opening)
+    pub projected : (n : ℕ) → Projected (after engine setting.horizon n setting.opening)
     projected zero = record { fine = sound.opens; steps = 0; same = refl }
     projected (suc n) =
         let r : Run engine = after engine setting.horizon n setting.opening in projected_by r (next_due engine setting.horizon r.sites) (projected n) refl

@@ -39,7 +39,7 @@ same_among key (s ∷ ss) =
     either (λ (t : Stepped). length t.sites ≡ suc (length ss)) (is_due key (least_due s)) (handled_here (handled key s) ss)
     (handled_there s (handled_among key ss)) refl (ap suc (same_among key ss))
 
-same_delivered : (os : List Outbound) (sites : List Site) → length (delivered os sites) ≡ length sites
+pub same_delivered : (os : List Outbound) (sites : List Site) → length (delivered os sites) ≡ length sites
 same_delivered [] sites = refl
 same_delivered (o ∷ os) sites = same_delivered os (map (delivered_one o) sites) ∙ length-map sites (delivered_one o)
 

@@ -19,3 +19,6 @@ pub mod Origins
 pub mod Left
 pub mod Apart
 pub mod Reach
+pub mod Sent
+pub mod Journeys
+pub mod Told

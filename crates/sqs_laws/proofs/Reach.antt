@@ -33,10 +33,10 @@ filter_same p q (x ∷ xs) h = rw (h x, filter_same p q xs h) refl
 
 module _ (among : ℕ → Bool) where
   -- the queues as the partition 0, the others as another
-  abbrev owner : ℕ → ℕ
+  abbrev pub owner : ℕ → ℕ
   owner n = if among n then 0 else 1
 
-  owned_by : (b : Bool) → (if b then 0 else 1) < 2
+  pub owned_by : (b : Bool) → (if b then 0 else 1) < 2
   owned_by true = omega arith
   owned_by false = omega arith
 
@@ -48,7 +48,7 @@ module _ (among : ℕ → Bool) where
   is_among n = is_among_by (among n)
 
   -- what the laws of partitions stand on
-  abbrev premises : (s : Scenario) → IsSoundScenario s → Premises sqs sqs_conditions
+  abbrev pub premises : (s : Scenario) → IsSoundScenario s → Premises sqs sqs_conditions
   premises s h =
       let sound : IsSoundSetting sqs sqs_conditions (home_of s) (IsFine (edges s) (home_of s) (sources s)) (FitsWays (Leads s)) (setting_of s) = sound_setting s h in
       record {

@@ -1,7 +1,7 @@
 -- The rules of SQS as laws of the log: of its rows, in order, and of the settings of its scenario, and of nothing
 -- else.
 use Rattle.std.specs.List.{range_with_len}
-use Rattle.std.specs.Prelude.{All, Bool, IsTrue, List, None, Some, false, flat_map, length, map, true, if◌then◌else◌, nat_lt, not, slice_get, ℕ, ◌&&◌, [], ◌+◌, ◌++◌, ◌<◌, ◌==◌, ◌∷◌, ◌≡◌, ◌≤◌, ◌⊎◌, ◌||◌}
+use Rattle.std.specs.Prelude.{All, Bool, IsTrue, List, None, Some, count_by, false, flat_map, length, map, true, if◌then◌else◌, nat_le, nat_lt, not, slice_get, ℕ, ◌&&◌, [], ◌+◌, ◌++◌, ◌<◌, ◌==◌, ◌∷◌, ◌≡◌, ◌≤◌, ◌⊎◌, ◌||◌}
 use Rattle.sim_clock.specs.declared.refusal.Refusal.TheVariants as refusals
 use Rattle.sqs_message.specs.declared.ids.MessageId.{MessageId}
 use Rattle.sqs_message.specs.declared.ids.Origin.{Origin}
@@ -16,8 +16,9 @@ use Rattle.sqs_redrive.specs.declared.settings.Kind.TheVariants.{Fifo, Standard}
 use Rattle.sqs_redrive.specs.declared.settings.Policy.{Policy}
 use Rattle.sqs_redrive.specs.declared.settings.QueueSettings.{QueueSettings}
 use Rattle.sqs_model.specs.declared.finals.FinalMessage.{FinalMessage}
-use Rattle.sqs_model.specs.Scenario.{Scenario}
-use Rattle.sqs_laws.specs.Words.{EachNaming, EachRow, changed, comes, comings, flying, has_left, in_flight_at, is_change, is_delete, is_gone, is_in_flight, is_move, is_redrive, is_release, may_follow, origin_of, received, that_stay, times}
+use Rattle.sqs_model.specs.declared.finals.FinalTransfer.{FinalTransfer}
+use Rattle.sqs_model.specs.Scenario.{Scenario, least_latency}
+use Rattle.sqs_laws.specs.Words.{EachNaming, EachRow, arrives_at, changed, comes, comings, flying, goes_to, has_left, in_flight_at, is_change, is_delete, is_gone, is_in_flight, is_move, is_redrive, is_release, may_follow, origin_of, received, that_stay, times}
 
 -- The end is the end. The messages that come to a queue are numbered from 0 on, and no row names one before it comes.
 -- Once it was deleted, has expired, or left for another queue, only answers gone and repeat and a consumer's fail and
@@ -134,3 +135,12 @@ pub record WhatIsLeft (s : Scenario) (rows : List Row) (left : List FinalMessage
   pub in_flight : All (λ m. is_in_flight m.place ≡ flying m.id rows) left
   pub received : All (λ m. m.receives ≡ times m.id rows) left
   pub origins : All (λ m. origin_of m.id rows ≡ Some m.origin) left
+
+-- Journeys. As many messages were sent on to a queue as arrived there and are still under way. By any moment no more had
+-- arrived there than were sent on at least the least latency of the scenario before it.
+pub record Journeys (s : Scenario) (rows : List Row) (under_way : List FinalTransfer) : Type 0 where
+  pub all : (n : ℕ) → n < length s.queues
+      → count_by (goes_to n) rows ≡ count_by (arrives_at n) rows + count_by (λ t. t.to == n) under_way
+  pub in_time : (n moment : ℕ) → n < length s.queues
+      → count_by (λ r. arrives_at n r && nat_le r.key.at moment) rows
+      ≤ count_by (λ r. goes_to n r && nat_le (r.key.at + least_latency s) moment) rows

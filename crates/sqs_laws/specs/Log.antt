@@ -5,7 +5,7 @@ use Rattle.sqs_model.specs.Progress.{IsSoundScenario}
 use Rattle.sqs_model.specs.Run.{IsRunOf, Run}
 use Rattle.sqs_model.specs.Scenario.{Scenario}
 use Rattle.sqs_model.specs.Valid.{IsQueueSettings}
-use Rattle.sqs_laws.specs.Laws.{KeepsTheRules, WhatIsLeft}
+use Rattle.sqs_laws.specs.Laws.{Journeys, KeepsTheRules, WhatIsLeft}
 
 -- the log of every sound scenario whose queues are in their ranges keeps the rules
 abbrev pub LogKeepsTheRules : Type 0
@@ -17,3 +17,8 @@ LogKeepsTheRules =
 abbrev pub LogSaysWhatIsLeft : Type 0
 LogSaysWhatIsLeft =
     (s : Scenario) → All IsQueueSettings s.queues → (r : Run) → IsRunOf s r → WhatIsLeft s r.rows (finals_of r.sites).messages
+
+-- and it tells each journey of a message from queue to queue
+abbrev pub LogTellsJourneys : Type 0
+LogTellsJourneys =
+    (s : Scenario) → IsSoundScenario s → (r : Run) → IsRunOf s r → Journeys s r.rows (finals_of r.sites).transfers

@@ -5,6 +5,8 @@ use Rattle.sqs_message.specs.declared.ids.MessageId.{MessageId}
 use Rattle.sqs_message.specs.declared.ids.Origin.{Origin}
 use Rattle.sqs_message.specs.declared.message.Place.{Place}
 use Rattle.sqs_message.specs.declared.message.Place.TheVariants.{InFlight}
+use Rattle.sqs_message.specs.declared.row.Detail.{Detail}
+use Rattle.sqs_message.specs.declared.row.Detail.TheVariants as details
 use Rattle.sqs_message.specs.declared.row.Row.{Row}
 use Rattle.sqs_message.specs.declared.row.RowAnswer.{RowAnswer}
 use Rattle.sqs_message.specs.declared.row.RowAnswer.TheVariants as answers
@@ -45,6 +47,10 @@ abbrev pub is_move : RowKind → Bool
 is_move kinds.Move = true
 is_move _ = false
 
+abbrev pub is_arrive : RowKind → Bool
+is_arrive kinds.Arrive = true
+is_arrive _ = false
+
 -- answers of rows
 abbrev pub is_new : RowAnswer → Bool
 is_new answers.New = true
@@ -74,6 +80,21 @@ changed r = is_change r.kind && is_ok r.answer
 
 abbrev pub leaves : Row → Bool
 leaves r = is_deleted r.answer || is_expired r.answer || is_redrive r.kind || is_move r.kind
+
+-- whether a detail is this queue
+abbrev pub tells_queue : ℕ → Detail → Bool
+tells_queue n (details.Queue to) = to == n
+tells_queue n _ = false
+
+-- a message is sent on its way to a queue: as a dead letter, by a forward or by a move; one arrives there
+abbrev pub sends_on : RowKind → Bool
+sends_on kind = is_redrive kind || is_forward kind || is_move kind
+
+abbrev pub goes_to : ℕ → Row → Bool
+goes_to n r = sends_on r.kind && tells_queue n r.detail
+
+abbrev pub arrives_at : ℕ → Row → Bool
+arrives_at n r = is_arrive r.kind && r.queue == n
 
 -- a row names a message
 abbrev pub names : MessageId → Row → Bool

@@ -1,5 +1,5 @@
 //! Laws of the rows of a run. Each function does nothing: its contract is the law.
-ghost use Rattle.sqs_laws.specs.Log.{LogKeepsTheRules, LogSaysWhatIsLeft};
+ghost use Rattle.sqs_laws.specs.Log.{LogKeepsTheRules, LogSaysWhatIsLeft, LogTellsJourneys};
 ghost use Rattle.sqs_laws.specs.Reach.{ChangesStayInReach};
 
 /// The log of every sound scenario keeps the rules.
@@ -11,6 +11,12 @@ pub fn log_keeps_the_rules()
 /// end, which of them are in flight, and how often each was received.
 pub fn log_says_what_is_left()
     ensures { LogSaysWhatIsLeft }
+{}
+
+/// The log of every sound scenario tells each journey of a message from queue to queue: it arrives,
+/// or is still under way at the end.
+pub fn log_tells_journeys()
+    ensures { LogTellsJourneys }
 {}
 
 /// Two scenarios may differ only at queues from which no way leads to some others. At these others

@@ -4,4 +4,6 @@
 
 mod laws;
 
-pub use laws::{changes_stay_in_reach, log_keeps_the_rules, log_says_what_is_left};
+pub use laws::{
+    changes_stay_in_reach, log_keeps_the_rules, log_says_what_is_left, log_tells_journeys,
+};

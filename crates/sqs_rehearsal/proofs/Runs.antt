@@ -6,6 +6,7 @@ use Rattle.sqs_rehearsal.proofs.Openings.{has_queues}
 use Rattle.sim_windows.proofs.Runs.{stays}
 use Rattle.sqs_laws.proofs.Left.{left_is_told}
 use Rattle.sqs_laws.proofs.Rules.{keeps_the_rules}
+use Rattle.sqs_laws.proofs.Told.{journeys_told}
 use Rattle.sqs_model.specs.Accounts.{EachHasOnePlace, NoOtherHasPlace}
 use Rattle.sqs_model.specs.Run.{IsRunOf, Run, after}
 use Rattle.sqs_model.specs.World.{next_due}
@@ -55,4 +56,5 @@ rehearsed q s range allowed r is =
       no_other = stands_alone s.scenario r there is;
       rules = keeps_the_rules s.scenario range.sound range.queues r is;
       left = left_is_told s.scenario range.queues r is;
+      journeys = journeys_told s.scenario range.sound r is;
     }

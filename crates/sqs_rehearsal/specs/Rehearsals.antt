@@ -4,7 +4,7 @@ use Rattle.sim_clock.specs.declared.refusal.Refusal.{Refusal}
 use Rattle.sqs_formats.specs.Output.{log_of}
 use Rattle.sqs_formats.specs.Rows.{line, log_header}
 use Rattle.sqs_formats.specs.Scenario.{released, scenario_upto}
-use Rattle.sqs_laws.specs.Laws.{KeepsTheRules, WhatIsLeft}
+use Rattle.sqs_laws.specs.Laws.{Journeys, KeepsTheRules, WhatIsLeft}
 use Rattle.sqs_model.specs.Accounts.{EachHasOnePlace, NoOtherHasPlace}
 use Rattle.sqs_model.specs.Finals.{finals_of}
 use Rattle.sqs_model.specs.Limits.{IsOver}
@@ -36,7 +36,7 @@ abbrev pub request : List ℕ → List (List ℕ × List ℕ) → Options → Re
 request = request_upto released
 
 -- a request's scenario, split as asked, and its one-list run: each accepted message is in one place, no other in any,
--- the rows keep the rules of SQS, and they say which messages are left
+-- the rows keep the rules of SQS, and they say which messages are left and which are under way
 pub record Rehearsed (q : Request) : Type 0 where
   pub scenario : Scenario
   pub run : Run
@@ -47,6 +47,7 @@ pub record Rehearsed (q : Request) : Type 0 where
   pub no_other : NoOtherHasPlace run.sites run.rows
   pub rules : KeepsTheRules scenario run.rows
   pub left : WhatIsLeft scenario run.rows (finals_of run.sites).messages
+  pub journeys : Journeys scenario run.rows (finals_of run.sites).transfers
 
 -- a whole rehearsal: the one-list run takes no count past the limit; the writers got the log, and finals and report, and
 -- were flushed after that
