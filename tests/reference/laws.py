@@ -66,6 +66,12 @@ class Left(NamedTuple):
     receives: int
 
 
+class Ending(NamedTuple):
+    """The messages of the final queues, and the queue to which each transfer under way goes."""
+    left: list[Left]
+    under_way: list[str]
+
+
 Log = list[Row]
 Table = dict[str, Any]
 
@@ -88,10 +94,11 @@ def rows_of(output: bytes) -> Log:
     return rows
 
 
-def left_in(output: bytes) -> list[Left]:
-    """The messages of the final queues in all that `run` prints."""
-    lines = [line for line in csv.reader(io.StringIO(output.decode(), newline="")) if line[0] == "final"]
-    return [Left(*line[1:5], int(line[7])) for line in lines[1:]]
+def ending_in(output: bytes) -> Ending:
+    """What is left and what is under way in all that `run` prints."""
+    lines = list(csv.reader(io.StringIO(output.decode(), newline="")))
+    left = [Left(*line[1:5], int(line[7])) for line in lines if line[0] == "final" and line[1:2] != ["queue"]]
+    return Ending(left, [line[2] for line in lines if line[0] == "transfer" and line[1:2] != ["from"]])
 
 
 # ---- settings ----
@@ -530,8 +537,8 @@ def journeys(log: Log, scenario: Scenario) -> None:
     must(not late, None, "never arrives")
 
 
-# ---- what is left ----
-def what_is_left(log: Log, scenario: Scenario, left: list[Left]) -> None:
+# ---- what the rows say of the end ----
+def what_is_left(log: Log, scenario: Scenario, ending: Ending) -> None:
     """The final queues have just the messages that came to a queue and have not left it, queue by queue in the order of
     their numbers. One is in flight just if the rows say so. It was received as often as they say, and has the origin that
     they tell. This law is proved."""
@@ -547,23 +554,33 @@ def what_is_left(log: Log, scenario: Scenario, left: list[Left]) -> None:
         elif row.call == "release":
             there[row.message] = there[row.message]._replace(place="rests")
     told = [message for there in found.values() for message in there.values()]
-    written = [message._replace(place=message.place if message.place == "inflight" else "rests") for message in left]
+    written = [message._replace(place=message.place if message.place == "inflight" else "rests") for message in ending.left]
     for before, after in zip(told, written):
         must(before == after, None, f"{after} is left, where the rows tell of {before}")
     must(len(told) == len(written), None, f"{len(written)} messages are left, where the rows tell of {len(told)}")
+
+
+def what_is_under_way(log: Log, scenario: Scenario, ending: Ending) -> None:
+    """As many messages were sent on to a queue as arrived there and are among the final transfers. This law is proved."""
+    sent_on = collections.Counter(row.detail for row in log if row.call in ("redrive", "forward", "move"))
+    arrived = collections.Counter(row.queue for row in log if row.call == "arrive")
+    arrived.update(ending.under_way)
+    must(sent_on == arrived, None, f"{dict(sent_on)} were sent on, and {dict(arrived)} arrived or are under way")
 
 
 LAWS: tuple[Callable[[Log, Scenario], None], ...] = (
     in_flight, the_end, dead_letters, receipts, time, delay_and_retention, fifo, deduplication, journeys)
 
 
-def broken(log: Log, scenario: Scenario, left: list[Left] | None = None) -> dict[str, str]:
-    """The laws that a log breaks, each with the row at which it does; if the final queues are there, that of what is left
-    too."""
+ENDING_LAWS: tuple[Callable[[Log, Scenario, Ending], None], ...] = (what_is_left, what_is_under_way)
+
+
+def broken(log: Log, scenario: Scenario, ending: Ending | None = None) -> dict[str, str]:
+    """The laws that a log breaks, each with the row at which it does; if its ending is there, the laws of that too."""
     faults = {}
     laws: dict[str, Callable[[], None]] = {law.__name__: functools.partial(law, log, scenario) for law in LAWS}
-    if left is not None:
-        laws[what_is_left.__name__] = functools.partial(what_is_left, log, scenario, left)
+    if ending is not None:
+        laws |= {law.__name__: functools.partial(law, log, scenario, ending) for law in ENDING_LAWS}
     for name, law in laws.items():
         try:
             law()
