@@ -99,6 +99,17 @@ FAULTS = [
     (SERVED, 'batch_service = "once"\nservice_each_ms = -1\nfail_permille = -1',
      "14 OutOfRange at actor[0].service_each_ms"),
     (SERVED, 'batch_service = 1\nheartbeat_s = 5', "11 UnknownKey at actor[0].heartbeat_s"),
+    (SERVED, "fail_service_ms = 0", ""),
+    (SERVED, "fail_service_ms = 43200000", ""),
+    (SERVED, "fail_service_ms = -1", "14 OutOfRange at actor[0].fail_service_ms"),
+    (SERVED, "fail_service_ms = 5\nbatch_service = 1", "13 WrongType at actor[0].batch_service"),
+    (SERVED, 'fail_service_ms = 5\nbatch_service = "each"\nbatch_fails = "each"', ""),
+    (SERVED, 'fail_service_ms = 5\nbatch_service = "once"\nbatch_fails = "whole"', ""),
+    (SERVED, 'fail_service_ms = 5\nbatch_service = "once"\nbatch_fails = 1',
+     "11 UnknownKey at actor[0].fail_service_ms"),
+    (SERVED, 'fail_service_ms = -1\nbatch_service = "once"\nheartbeat_s = 5',
+     "11 UnknownKey at actor[0].fail_service_ms"),
+    (SENT, "fail_service_ms = 5", "11 UnknownKey at actor[0].fail_service_ms"),
     (SERVED, 'backoff_jitter = "full"', "11 UnknownKey at actor[0].backoff_jitter"),
     (SERVED, 'backoff_s = [1]\nbackoff_jitter = "none"', ""),
     (SERVED, 'backoff_s = [1]\nbackoff_jitter = "half"\nheartbeat_s = 0', "14 OutOfRange at actor[0].backoff_jitter"),
@@ -311,10 +322,21 @@ class VersionThree(unittest.TestCase):
     def test_a_batch_of_one_fails_as_a_whole_or_each(self):
         for seed, source, _ in random_texts("version-3"):
             with self.subTest(seed=seed):
-                text = re.sub("batch = [0-9]+\n", "batch = 1\n", source.decode("utf-8"))
+                text = re.sub("fail_service_ms = [0-9]+\n", "", source.decode("utf-8"))
+                text = re.sub("batch = [0-9]+\n", "batch = 1\n", text)
                 each, whole = (re.sub('batch_fails = "[a-z]+"\n', f'batch_fails = "{word}"\n', text).encode("utf-8")
                                for word in ("each", "whole"))
                 self.assertEqual(first_difference(referred(each, 3), referred(whole, 3)), "")
+
+    def test_failures_that_take_as_long_change_nothing(self):
+        """Without outages it makes no difference when a service is decided: its words have the same order."""
+        for seed, source, _ in random_texts("version-2"):
+            with self.subTest(seed=seed):
+                text = re.sub("service_min_ms = [0-9]+\nservice_max_ms = [0-9]+\n",
+                              "service_min_ms = 50\nservice_max_ms = 50\n", source.decode("utf-8"))
+                text = text.replace("version = 2\n", "version = 3\n")
+                same = text.replace("service_min_ms", "fail_service_ms = 50\nservice_min_ms")
+                self.assertEqual(first_difference(referred(text.encode(), 3), referred(same.encode(), 3)), "")
 
     def test_random_scenarios_run(self):
         texts = [outcome.status for profile in ("version-3", "faulty-3") for _, _, outcome in random_texts(profile)]
