@@ -31,8 +31,8 @@ def mean_service(consumer: Mapping[str, Any]) -> float:
     mean = mean_time(consumer, "service")
     if consumer.get("batch_service") == "once":
         mean += size_of_service(consumer) * int(consumer.get("service_each_ms", 0))
-    failing = consumer.get("fail_permille", 0) / 1_000
-    return (1 - failing) * mean + failing * consumer.get("fail_service_ms", mean)
+    failing = int(consumer.get("fail_permille", 0)) / 1_000
+    return (1 - failing) * mean + failing * float(consumer.get("fail_service_ms", mean))
 
 
 def text_of_service(consumer: Mapping[str, Any]) -> str:
