@@ -1,6 +1,4 @@
 """Scripts, producers and consumers: what each does when it wakes, and when it wakes next."""
-from __future__ import annotations
-
 from collections.abc import Sequence
 from typing import Protocol
 

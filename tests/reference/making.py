@@ -1,6 +1,4 @@
 """Random scenarios of a few agents, dense in time, so that events meet at one moment."""
-from __future__ import annotations
-
 import random
 from collections.abc import Callable, Sequence
 from typing import Any, TypeVar

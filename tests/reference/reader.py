@@ -1,6 +1,4 @@
 """Reads a scenario, or finds its first fault."""
-from __future__ import annotations
-
 import re
 from collections.abc import Mapping
 from dataclasses import replace

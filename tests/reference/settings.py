@@ -1,6 +1,4 @@
 """What a scenario says of its queues, actors and tasks. Times are milliseconds, unless a name ends with _s."""
-from __future__ import annotations
-
 from dataclasses import dataclass, field
 from typing import Protocol
 
