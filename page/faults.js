@@ -211,6 +211,9 @@ function unknownKey(fault) {
   if (found?.beside.length) {
     return `${key} stands only together with ${found.beside.join(' or ')}, which ${title} does not have.`;
   }
+  if (found && key === 'fail_service_ms') {
+    return `${title} has batch_service = "once", beside which ${key} stands only together with batch_fails = "whole".`;
+  }
   const other = fault.keys.find(({ name, replaces }) =>
     replaces.includes(String(key)) && fault.value(name) !== undefined);
   if (other) return `${title} has both ${key} and ${other.name}; ${other.name} takes its place.`;

@@ -1,7 +1,5 @@
 """Browsers without a window, for the tests of the page: Chromium by selenium, and Firefox by its own protocol, since
 Debian has no driver of selenium for it. tests/page imports this; it is not a command."""
-from __future__ import annotations
-
 import base64
 import json
 import os

@@ -1,6 +1,4 @@
 """Scripts, producers and consumers: what each does when it wakes, and when it wakes next."""
-from __future__ import annotations
-
 from collections.abc import Sequence
 from typing import Protocol
 
@@ -167,10 +165,24 @@ class Consumer(Actor):
 
     def begin_service(self, home: Home) -> None:
         """Of the next message, or of the whole batch if it is served at once."""
-        each_ms = self.settings.each_ms
-        time = self.settings.service.drawn(self.draws)
-        self.service_end = home.now + time + (len(self.batch) * each_ms if each_ms is not None else 0)
+        settings = self.settings
+        time = settings.service.drawn(self.draws) + len(self.batch) * (settings.each_ms or 0)
+        if settings.fail_service is not None:
+            self.has_failed = self.fails(home, self.in_service())
+            time = settings.fail_service if self.has_failed else time
+        self.service_end = home.now + max(1, time)
         self.wake_in_service(home)
+
+    def in_service(self) -> list[Held]:
+        """What the service is of whose end decides all at once: a message, or a batch that fails as a whole."""
+        is_of_batch = self.settings.is_whole and self.settings.each_ms is not None
+        return self.unserved if is_of_batch else self.unserved[:1]
+
+    def fails(self, home: Home, served: Sequence[Held]) -> bool:
+        """Draws whether a service of some messages fails at this moment, by chance or by one of their bodies."""
+        settings, fails_by_chance = self.settings, self.draws.chance(self.settings.fail_permille_at(home.now))
+        is_poison = settings.fails_on is not None and any(settings.fails_on in held.body for held in served)
+        return fails_by_chance or is_poison
 
     def serve_next(self, home: Home) -> None:
         """Begins the next service. If its message was served with those before it, 1 ms later it is decided how that
@@ -191,19 +203,16 @@ class Consumer(Actor):
         self.wake_in_service(home)
 
     def end_service(self, home: Home) -> None:
-        settings, served = self.settings, self.unserved.pop(0)
-        together = [served]
-        if settings.is_whole and settings.each_ms is not None:
-            together, self.unserved = [served, *self.unserved], []
-        fails_by_chance = self.draws.chance(settings.fail_permille_at(home.now))
-        is_poison = settings.fails_on is not None and any(settings.fails_on in held.body for held in together)
-        self.has_failed = fails_by_chance or is_poison
+        served = self.in_service()
+        self.unserved = self.unserved[len(served):]
+        if self.settings.fail_service is None:
+            self.has_failed = self.fails(home, served)
         if self.has_failed:
-            home.row(self.agent, "fail", "ok", served.id, served.receipt)
-        if settings.is_whole:
+            home.row(self.agent, "fail", "ok", served[0].id, served[0].receipt)
+        if self.settings.is_whole:
             self.go_on_with_batch(home)
         else:
-            self.settle(home, served)
+            self.settle(home, served[0])
             self.serve_next(home)
 
     def go_on_with_batch(self, home: Home) -> None:

@@ -1,6 +1,4 @@
 """The figures of a run: what is counted of each queue and each other agent over a stretch of it."""
-from __future__ import annotations
-
 from collections import Counter
 from collections.abc import Container, Iterable, Iterator, Sequence
 from typing import TYPE_CHECKING, NamedTuple, Optional

@@ -3,8 +3,6 @@
 Each law is a function over a log's rows, in order. It raises Broken at the first row that breaks it. Nothing here is
 shared with the simulator, with the tools or with the reference beside this file.
 """
-from __future__ import annotations
-
 import collections
 import csv
 import functools

@@ -1,6 +1,4 @@
 """What is written: the log, the final queues, the report, and the comparison of two reports."""
-from __future__ import annotations
-
 import hashlib
 from collections.abc import Iterable, Sequence
 from typing import TYPE_CHECKING

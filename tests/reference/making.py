@@ -1,6 +1,4 @@
 """Random scenarios of a few agents, dense in time, so that events meet at one moment."""
-from __future__ import annotations
-
 import random
 from collections.abc import Callable, Sequence
 from typing import Any, TypeVar
@@ -16,7 +14,7 @@ EDITED_LINES = ["speed = 1", 'name = "q0"', "delay_s = -1", "hosts = 17", "body 
                 "latency_ms = 0", 'to = "nobody"', 'forward = "q9"', "groups = 0", "sample = -5", "[x]", "[[actor]]",
                 "[[task]]", "[[queue]]", "stop_ms = 5", "copies = 2", 'batch_fails = "whole"', "fails_to_ms = 9",
                 'batch_service = "once"', "service_each_ms = 7", "fails_between_ms = [[1, 9], [5, 5]]",
-                "fails_permille = 10", 'backoff_jitter = "full"', "heartbeat_s = 1",
+                "fails_permille = 10", 'backoff_jitter = "full"', "heartbeat_s = 1", "fail_service_ms = 7",
                 "service = [[0, 1], [1000, 5]]", "backoff_s = []", "gap = 7", 'key_groups = [["g", 1]]']
 EDITED_VALUES = ["-1", "0", "1", "3", "901", "43201", "99999999999", "9223372036854775807", "1.5", "true", '""',
                  '"abc"', '"a b"', "[]", "{}", "1979-05-27", '"q0"', '"q1.fifo"', '"script"', '"producer"',
@@ -190,11 +188,14 @@ class Maker:
 
     def new_keys(self, start: int) -> dict[str, object]:
         """What version 3 has besides."""
-        return {"gather_ms": self.rarely(0.4, [0, 1, 1, 50, 1000, 5000, 300_000]),
+        keys = {"gather_ms": self.rarely(0.4, [0, 1, 1, 50, 1000, 5000, 300_000]),
                 "stop_ms": self.rarely(0.3, [self.moment(start)]),
                 "fails_on": self.rarely(0.4, ["1", "a", "b", "{", "x,", "abc", "hi"]), **self.outages(),
                 "batch_fails": self.rarely(0.5, ["each", "whole", "whole"]), **self.backoff(), **self.serving(),
                 "copies": self.rarely(0.3, [1, 2, 3])}
+        if keys.get("batch_service") != "once" or keys["batch_fails"] == "whole":
+            keys["fail_service_ms"] = self.rarely(0.4, [0, 0, 1, 100, 999, 1000, 1001, 3000])
+        return keys
 
     def outages(self) -> dict[str, object]:
         """One outage, or several that may meet, or none."""

@@ -1,6 +1,4 @@
 """A queue and its messages: what each call does to them, without rows."""
-from __future__ import annotations
-
 import hashlib
 from dataclasses import dataclass
 from enum import Enum

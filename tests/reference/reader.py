@@ -1,6 +1,4 @@
 """Reads a scenario, or finds its first fault."""
-from __future__ import annotations
-
 import re
 from collections.abc import Mapping
 from dataclasses import replace
@@ -228,7 +226,8 @@ class Reader:
         gather = table.optional("gather_ms", integer(0, 300_000), 0)
         return ConsumerSettings(
             start, batch, table.optional("wait_s", integer(0, 20), 0), table.maybe("timeout_s", integer(0, 43_200)),
-            self.time(table, "service"), time_of_each(table), table.optional("fail_permille", integer(0, 1_000), 0),
+            self.time(table, "service"), time_of_each(table), table.maybe("fail_service_ms", integer(0, 43_200_000)),
+            table.optional("fail_permille", integer(0, 1_000), 0),
             table.optional("idle_ms", integer(1, MOST_DAY), 1_000), self.forwarding(table, home), gather)
 
     def forwarding(self, table: Table, home: int) -> Forwarding | None:
@@ -286,14 +285,21 @@ def table_of(key: str, number: int, item: Any) -> Table:
 
 
 def new_consumer_keys(table: Table) -> list[str]:
-    """The keys that a consumer of version 3 may have besides. Some are known by the presence of others alone."""
+    """The keys that a consumer of version 3 may have besides. Some are known by the presence of others alone, and one
+    by what they say."""
     outage = []
     if table.has("fails_between_ms"):
         outage = ["fails_between_ms", "fails_permille"]
     elif table.has("fails_from_ms"):
         outage = ["fails_from_ms", "fails_to_ms", "fails_permille"]
     return [*NEW_CONSUMER_KEYS, "service_each_ms" if table.has("batch_service") else "heartbeat_s", *outage,
-            *(["backoff_jitter"] if table.has("backoff_s") else [])]
+            *(["backoff_jitter"] if table.has("backoff_s") else []),
+            *(["fail_service_ms"] if has_one_outcome(table) else [])]
+
+
+def has_one_outcome(table: Table) -> bool:
+    """Whether each service of a consumer ends well as a whole or fails as a whole."""
+    return table.values.get("batch_service") != "once" or table.values.get("batch_fails") == "whole"
 
 
 def time_of_each(table: Table) -> int | None:

@@ -1,6 +1,4 @@
 """Scripts: CSV, and the calls that its records are."""
-from __future__ import annotations
-
 from collections.abc import Container
 from enum import Enum, auto
 

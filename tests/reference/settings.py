@@ -1,6 +1,4 @@
 """What a scenario says of its queues, actors and tasks. Times are milliseconds, unless a name ends with _s."""
-from __future__ import annotations
-
 from dataclasses import dataclass, field
 from typing import Protocol
 
@@ -126,7 +124,7 @@ class Outage:
 @dataclass
 class ConsumerSettings:
     """The time of a service is of one message if `each_ms` is None. Else it is of a whole batch, and grows by so much
-    with each of its messages."""
+    with each of its messages. With `fail_service` a service that fails takes this time, and its begin decides that."""
 
     start: int
     batch: int
@@ -134,6 +132,7 @@ class ConsumerSettings:
     timeout_s: int | None
     service: Time
     each_ms: int | None
+    fail_service: int | None
     fail_permille: int
     idle: int
     forward: Forwarding | None
@@ -148,8 +147,8 @@ class ConsumerSettings:
     copies: int | None = None
 
     def fail_permille_at(self, moment: int) -> int:
-        """Of a thousand services that end at a moment how many fail: by the first outage that it is in, if there is
-        one."""
+        """Of a thousand services that are decided at a moment how many fail: by the first outage that it is in, if it
+        is in one."""
         return next((outage.fail_permille for outage in self.outages if moment in outage.time), self.fail_permille)
 
 

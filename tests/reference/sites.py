@@ -1,6 +1,4 @@
 """A site: a queue with the actors and tasks whose home it is, and the world of all sites."""
-from __future__ import annotations
-
 import math
 from collections.abc import Iterator
 from dataclasses import dataclass, replace

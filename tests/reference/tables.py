@@ -1,6 +1,4 @@
 """Tables of a scenario's text: their keys, the types of their values, and the faults of both."""
-from __future__ import annotations
-
 import math
 import tomllib
 from collections.abc import Callable, Collection, Iterator

@@ -1,6 +1,4 @@
 """Random words by ChaCha20 (RFC 8439), and what is drawn by a word."""
-from __future__ import annotations
-
 from collections.abc import Iterator, Sequence
 
 WORD_BITS = 32

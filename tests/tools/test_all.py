@@ -10,7 +10,7 @@ import sys
 import unittest
 from unittest import mock
 
-from tool import LIMIT, ROOT, ToolCase, module_at, wait_for
+from tool import LIMIT, ROOT, ToolCase, is_running, module_at, wait_for
 
 ALL = os.path.join(ROOT, "tests", "all.py")
 everything = module_at(ALL, "tests_all")
@@ -190,12 +190,6 @@ class Order(Small):
 
 
 class Ends(Small):
-    def is_running(self, process):
-        try:
-            return pathlib.Path(f"/proc/{process}/stat").read_text().rpartition(")")[2].split()[0] not in "ZX"
-        except OSError:
-            return False
-
     def processes(self):
         """The numbers of processes that the part has written."""
         try:
@@ -209,7 +203,7 @@ class Ends(Small):
                   f'while :; do sleep 60; done\' & sleep 3600 & echo $$ $! >> "$HERE/processes"; {then} wait')
 
     def assert_ended(self):
-        self.assertEqual([process for process in self.processes() if self.is_running(process)], [])
+        self.assertEqual([process for process in self.processes() if is_running(process)], [])
         self.assertEqual(os.listdir(self.path("tmp")), [])
 
     def test_a_part_that_hangs(self):
@@ -258,7 +252,7 @@ class Ends(Small):
             self.assertIn(run.wait(LIMIT), (128 + number, -number))
             if number == signal.SIGKILL:
                 os.kill(self.processes()[0], number)
-            wait_for(lambda: not any(map(self.is_running, begun)))
+            wait_for(lambda: not any(map(is_running, begun)))
             os.remove(self.path("processes"))
 
 

@@ -9,7 +9,7 @@ import sys
 import types
 import unittest
 
-from tool import LIMIT, ROOT, ToolCase, module_at, module_of, wait_for
+from tool import LIMIT, ROOT, ToolCase, is_running, module_at, module_of, wait_for
 
 build = module_of("build")
 side_by_side = module_at(os.path.join(ROOT, "tools", "side_by_side.py"), "side_by_side")
@@ -68,13 +68,6 @@ class Build(ToolCase):
 
     def await_call(self, crate):
         wait_for(lambda: any(call[1] == crate for call in self.calls()))
-
-    def is_running(self, process):
-        """Whether a process goes on; one that has ended may still wait for somebody to ask for its status."""
-        try:
-            return pathlib.Path(f"/proc/{process}/stat").read_text().rpartition(")")[2].split()[0] not in "ZX"
-        except OSError:
-            return False
 
     def test_builds_what_the_program_stands_on_and_nothing_else(self):
         status, out, lines = self.build()
@@ -146,7 +139,7 @@ class Build(ToolCase):
             run.send_signal(number)
             err = run.communicate(timeout=LIMIT)[1]
             self.assertEqual((run.returncode, err.splitlines()[-1]), (expected, f"sqs_rehearse: {build.INTERRUPTED}"))
-            self.assertFalse([call for call in self.calls() if self.is_running(call[0])])
+            self.assertFalse([call for call in self.calls() if is_running(call[0])])
             self.assertEqual(os.listdir(self.path("tmp")), [])
             os.remove(self.path("calls"))
 
@@ -155,7 +148,7 @@ class Build(ToolCase):
         self.await_call("sim_b")
         run.kill()
         run.communicate()
-        wait_for(lambda: not any(self.is_running(call[0]) for call in self.calls()))
+        wait_for(lambda: not any(is_running(call[0]) for call in self.calls()))
 
     def test_a_second_build_waits_for_the_first(self):
         first = self.start(does="wait sim_a")

@@ -140,6 +140,9 @@ REASONS_OF_3 = (
      "batch_service of the consumer packer is onc. It is each or once. Did you mean once?"),
     (SERVED + 'batch_service = "once"\nheartbeat_s = 5\n', "11 UnknownKey at actor[0].heartbeat_s", "12:1",
      "The consumer packer has both heartbeat_s and batch_service; batch_service takes its place."),
+    (SERVED + 'batch_service = "once"\nfail_service_ms = 5\n', "11 UnknownKey at actor[0].fail_service_ms", "12:1",
+     'The consumer packer has batch_service = "once", beside which fail_service_ms stands only together with '
+     'batch_fails = "whole".'),
     (SERVED + 'backoff_jitter = "full"\n', "11 UnknownKey at actor[0].backoff_jitter", "11:1",
      "backoff_jitter stands only together with backoff_s, which the consumer packer does not have."),
     (SERVED + "backoff_s = 5\n", "13 WrongType at actor[0].backoff_s", "11:13",
@@ -202,7 +205,17 @@ LOADS = (
      # a mean gap of half of 50 (1 to 99) and half of 100, and a batch of five in 750 ms
      [SENT_TO.format("13.33"),
       BUSY.format("p", "750.0", "only consumer", "200.0").replace("a service", "a service of 5 messages"),
-      "orders: over 100 %, so it grows without end while messages come like this"]))
+      "orders: over 100 %, so it grows without end while messages come like this"]),
+    # of ten services nine take 200 ms, and one that fails takes 3 s
+    ([EACH_200_MS, ("p", "consumer", "copies = 4\nservice_min_ms = 100\nservice_max_ms = 300\nfail_permille = 100\n"
+                                     "fail_service_ms = 3000\n")],
+     [SENT_TO.format("5.00"), BUSY.format("p", "480.0", "4 consumers", "60.0")]),
+    # of a batch of ten in 300 ms half of all services end as a whole in 100 ms
+    ([EACH_200_MS, ("p", "consumer", 'batch = 10\nservice_min_ms = 200\nservice_max_ms = 200\nservice_each_ms = 10\n'
+                                     'batch_service = "once"\nfail_service_ms = 100\nfail_permille = 500\n'
+                                     'batch_fails = "whole"\n')],
+     [SENT_TO.format("5.00"),
+      BUSY.format("p", "200.0", "only consumer", "10.0").replace("a service", "a service of 10 messages")]))
 explain = module_of("explain")
 
 

@@ -19,6 +19,7 @@ except Fault:
     jsonschema = None
 # What a schema cannot say, by the line of the refusal; docs/FORMATS.md has it in words.
 UNSAID = re.compile(r"refused (?:10 NotToml|(?:15|19) .*\.copies|16 .*|17 .*|18 .*|20 .*|12 MissingKey at .*\.script|"
+                    r"11 UnknownKey at .*\.fail_service_ms|"
                     r"14 OutOfRange at (?:version|.*\.(?:gap_max_ms|service_max_ms|latency_max_ms|sampled|body|stop_ms|"
                     r"fails_on|fails_to_ms|(?:gap|service|fails_between_ms)\[[0-9]+\])))\n")
 with open(os.path.join(ROOT, "docs", "scenario.schema.json"), encoding="utf-8") as schema_file:

@@ -108,6 +108,14 @@ def wait_for(is_so):
         time.sleep(0.02)
 
 
+def is_running(process):
+    """Whether a process goes on; one that has ended may still wait for somebody to ask for its status."""
+    try:
+        return text_at(f"/proc/{process}/stat").rpartition(")")[2].split()[0] not in "ZX"
+    except OSError:
+        return False
+
+
 def read_whole(reader):
     """All that was written to a pipe or a terminal, which nobody has open for writing any more."""
     text = b""

@@ -167,6 +167,8 @@ def unknown_key(scenario: Scenario) -> str:
         return f"{title} has both calls and script; one of them is enough."
     if found and found.beside:
         return f"{key} stands only together with {' or '.join(found.beside)}, which {title} does not have."
+    if found and key == "fail_service_ms":
+        return f'{title} has batch_service = "once", beside which {key} stands only together with batch_fails = "whole".'
     other = replaced_by(scenario, key)
     if other:
         return f"{title} has both {key} and {other}; {other} takes its place."

@@ -21,19 +21,25 @@ def mean_time(actor: Mapping[str, Any], key: str) -> float:
     return statistics.fmean(bounds) if bounds else mean_of(actor[key])
 
 
+def size_of_service(consumer: Mapping[str, Any]) -> int:
+    """How many messages a service is of: one, or a full batch that is served at once."""
+    return int(consumer.get("batch", 1)) if consumer.get("batch_service") == "once" else 1
+
+
 def mean_service(consumer: Mapping[str, Any]) -> float:
-    """The mean time of work on a message; where a batch is served at once, that of a full one."""
+    """The mean time of a service. Of those that fail by chance, outside of outages, some take a time of their own."""
     mean = mean_time(consumer, "service")
-    if consumer.get("batch_service") != "once":
-        return mean
-    return mean / int(consumer.get("batch", 1)) + int(consumer.get("service_each_ms", 0))
+    if consumer.get("batch_service") == "once":
+        mean += size_of_service(consumer) * int(consumer.get("service_each_ms", 0))
+    failing = int(consumer.get("fail_permille", 0)) / 1_000
+    return (1 - failing) * mean + failing * float(consumer.get("fail_service_ms", mean))
 
 
 def text_of_service(consumer: Mapping[str, Any]) -> str:
     """What a service is of, and how long it takes on average."""
-    size = int(consumer.get("batch", 1)) if consumer.get("batch_service") == "once" else 1
+    size = size_of_service(consumer)
     of = f" of {size} messages" if size > 1 else ""
-    return f"a service{of} takes {size * mean_service(consumer):,.1f} ms on average"
+    return f"a service{of} takes {mean_service(consumer):,.1f} ms on average"
 
 
 def rate_of(actor: Mapping[str, Any], folder: str) -> float:
@@ -54,7 +60,7 @@ def lines_of_queue(scenario: Mapping[str, Any], queue: str, folder: str) -> list
     if not consumers:
         return []
     rate, count = sum(rate_of(actor, folder) for actor in actors), sum(it.get("copies", 1) for it in consumers)
-    load = 100 * rate / sum(consumer.get("copies", 1) / mean_service(consumer) for consumer in consumers)
+    load = 100 * rate / sum(it.get("copies", 1) * size_of_service(it) / mean_service(it) for it in consumers)
     others = sorted({start for start, to in ways_of(scenario) if to == queue})
     lines = [f"{queue}: {1_000 * rate:,.2f} messages a second are sent"
              + (f", and what comes from {', '.join(others)} is left out" if others else "")]
