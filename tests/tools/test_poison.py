@@ -3,15 +3,19 @@
 The model has servers that take up to ten messages, handle one after another, and let the whole batch come back if one
 fails. It knows nothing of polls, receipts or words: times are Python's random numbers. So its numbers are not ours, but
 over 30 seeds both must be of one size, and go the same way.
+
+Another model has servers that take a batch at once. It keeps the rules of docs/MODEL.md on polls, and on messages that
+come back one by one. So both means must be equal but for chance.
 """
 import heapq
 import itertools
+import math
 import os
 import random
 import statistics
 import subprocess
 import unittest
-from collections.abc import Iterator
+from collections.abc import Callable, Iterator
 
 from tool import PROGRAM, needs_program
 
@@ -109,6 +113,76 @@ class Model:
         return self.dead
 
 
+class AtOnce:
+    """Servers that take a batch at once, by the rules of docs/MODEL.md: what comes back is given one by one to the polls
+    that wait, and a server that gathers asks once more, 1 ms later. One message in a hundred is poison."""
+
+    def __init__(self, seed: int, gathers: bool) -> None:
+        self.random, self.gathers = random.Random(seed), gathers
+        self.receives, self.dead = [0] * COUNT, 0
+        self.visible: list[int] = []
+        self.waiting: list[int] = []
+        self.batches: list[list[int]] = [[] for _ in range(SERVERS)]
+        # What is to come: a moment, who acts then, a message or 0, and what is done.
+        self.due: list[tuple[int, int, int, Callable[[int], None]]] = []
+        gaps = (self.random.randint(1, 199) for _ in range(COUNT))
+        for number, moment in enumerate(itertools.accumulate(gaps)):
+            heapq.heappush(self.due, (moment, 0, number, lambda now, it=number: heapq.heappush(self.visible, it)))
+        for server in range(SERVERS):
+            self.later(0, server, self.ask)
+
+    def later(self, moment: int, server: int, act: Callable[[int, int], None]) -> None:
+        heapq.heappush(self.due, (moment, 1 + server, 0, lambda now: act(now, server)))
+
+    def come_back(self, number: int, received: int) -> None:
+        if self.receives[number] == received == RECEIVES:
+            self.dead += 1
+        elif self.receives[number] == received:
+            heapq.heappush(self.visible, number)
+
+    def take(self, now: int, server: int) -> None:
+        for _ in range(min(BATCH - len(self.batches[server]), len(self.visible))):
+            number = heapq.heappop(self.visible)
+            self.receives[number] += 1
+            self.batches[server].append(number)
+            heapq.heappush(self.due, (now + TIMEOUT, 0, number, lambda _, it=number, received=self.receives[number]:
+                                      self.come_back(it, received)))
+
+    def ask(self, now: int, server: int) -> None:
+        """Asks, and begins to serve what it got, or to gather more. Its poll waits if there is nothing."""
+        self.batches[server] = []
+        self.take(now, server)
+        if not self.batches[server]:
+            self.waiting.append(server)
+        elif self.gathers and len(self.batches[server]) < BATCH:
+            self.later(now + 1, server, self.gather)
+        else:
+            self.serve(now, server)
+
+    def gather(self, now: int, server: int) -> None:
+        self.take(now, server)
+        self.serve(now, server)
+
+    def serve(self, now: int, server: int) -> None:
+        self.later(now + self.random.randint(500, 1_500), server, self.end)
+
+    def end(self, now: int, server: int) -> None:
+        batch = self.batches[server]
+        is_poison = any(number % 100 == 99 for number in batch)
+        for number in () if is_poison else batch:
+            self.receives[number] = 0
+        self.later(now + (1 if is_poison else len(batch)), server, self.ask)
+
+    def run(self) -> int:
+        """How many messages are dead in the end."""
+        while self.due:
+            now, _, _, act = heapq.heappop(self.due)
+            act(now)
+            while self.visible and self.waiting:
+                self.ask(now, self.waiting.pop(0))
+        return self.dead
+
+
 def dead_letters(text: str) -> int:
     """How many messages the program's report of a scenario counts as redriven from the first queue."""
     ran = subprocess.run([str(PROGRAM), "run", "--preview", "--log", os.devnull], input=text.encode(), check=True,
@@ -150,6 +224,22 @@ class Poison(unittest.TestCase):
             self.assertEqual(sorted(side, reverse=True), list(side))
             self.assertGreater(side[0], 3 * side[1])
             self.assertGreater(side[1], 1.3 * side[2])
+
+    def test_batches_at_once(self) -> None:
+        """The means differ by no more than four of their standard errors. Servers that gather kill more."""
+        means = []
+        for gather in (0, 1):
+            actors = LAMBDA.format(number="", low=500, high=1_500, fails="whole").replace("999.", "99.") \
+                + f'batch_service = "once"\ncopies = {SERVERS}\nidle_ms = 1\ngather_ms = {gather}\n'
+            found = [AtOnce(seed, gather > 0).run() for seed in SEEDS[:20]]
+            ours = [dead_letters(SCENARIO.format(seed=seed, gap=199) + actors) for seed in SEEDS[:20]]
+            mean, our_mean = statistics.mean(found), statistics.mean(ours)
+            error = math.sqrt((statistics.variance(found) + statistics.variance(ours)) / len(found))
+            with self.subTest(gather=gather):
+                self.assertLess(abs(mean - our_mean), 4 * error)
+            means.append((mean, our_mean))
+        for side in zip(*means):
+            self.assertGreater(side[1], 1.05 * side[0])
 
 
 if __name__ == "__main__":
