@@ -2,6 +2,7 @@
 use Rattle.std.specs.Prelude.{Bool, IsNone, List, None, Option, Some, [], cond, false, filter, map, suc, true, zero, ℕ, ◌+◌, ◌++◌, ◌==◌, ◌∷◌, ◌≡◌, ◌⊎◌}
 use Rattle.std.proofs.Common.{ap, append-nil, arith, inl, inr, refl, subst, sym, ◌∙◌}
 use Rattle.std.proofs.lemmas.Bool.{eqb-true}
+use Rattle.std.proofs.lemmas.List.Elements.{filter-append}
 use Rattle.sim_clock.specs.declared.key.Key.{Key}
 use Rattle.sim_clock.specs.Order.{due_before}
 use Rattle.sim_engine.specs.declared.edge.Edge.{Edge}
@@ -39,14 +40,6 @@ module _ {Site Row Transfer : Type 0} (engine : Engine Site Row Transfer) (horiz
       let ended_b : next_due engine horizon (after engine horizon b.steps start).sites ≡ None = ap (λ (y : Run engine). next_due engine horizon y.sites) b.reached ∙ none_is (next_due engine horizon x.sites) b.ended in
       let swap : b.steps + a.steps ≡ a.steps + b.steps = omega arith in
       sym a.reached ∙ sym (stays b.steps a.steps ended_a) ∙ ap (λ n. after engine horizon n start) swap ∙ stays a.steps b.steps ended_b ∙ b.reached
-
-pub filter_append : {A : Type 0} (p : A → Bool) (xs ys : List A) → filter p (xs ++ ys) ≡ filter p xs ++ filter p ys
-filter_append p [] ys = refl
-filter_append p (x ∷ xs) ys =
-    elim (p x) as (λ b. cond b (x ∷ filter p (xs ++ ys)) (filter p (xs ++ ys)) ≡ cond b (x ∷ filter p xs) (filter p xs) ++ filter p ys) [
-      | true ↦ ap (λ z. x ∷ z) (filter_append p xs ys)
-      | false ↦ filter_append p xs ys
-    ]
 
 pub filter_all : {A : Type 0} (p : A → Bool) (xs : List A) → Each (λ x. p x ≡ true) xs → filter p xs ≡ xs
 filter_all p [] h = refl
@@ -135,7 +128,7 @@ module _ {Site Row Transfer : Type 0} {engine : Engine Site Row Transfer} {condi
         let there : Each (λ y. k y ≡ true) h.rows = subst (λ (t : Stepped engine). Each (λ y. k y ≡ true) t.rows) same (rows_in 0 key w fine) in
         let sites : part_of engine owner 0 (delivered engine h.sent h.sites) ≡ delivered engine x.sent x.sites =
         part_delivered basics owner 0 h.sent h.sites ∙ ap (delivered engine h.sent) sites_same ∙ ap (λ os. delivered engine os x.sites) sent_same in
-        let rows : filter k (r.rows ++ h.rows) ≡ filter k r.rows ++ x.rows = filter_append k r.rows h.rows ∙ ap (λ z. filter k r.rows ++ z) (filter_all k h.rows there ∙ rows_same) in
+        let rows : filter k (r.rows ++ h.rows) ≡ filter k r.rows ++ x.rows = filter-append k r.rows h.rows ∙ ap (λ z. filter k r.rows ++ z) (filter_all k h.rows there ∙ rows_same) in
         ap (stepped_at engine (part_run r)) next
         ∙ sym (run_is (part_of engine owner 0 (delivered engine h.sent h.sites)) (delivered engine x.sent x.sites) (filter k (r.rows ++ h.rows)) (filter k r.rows ++ x.rows) sites rows)
 
@@ -153,7 +146,7 @@ module _ {Site Row Transfer : Type 0} {engine : Engine Site Row Transfer} {condi
         part_delivered basics owner 0 h.sent h.sites
         ∙ ap (delivered engine h.sent) (sym (ap (λ (t : Stepped engine). part_of engine owner 0 t.sites) same) ∙ others basics owner p 0 key w far)
         ∙ all_elsewhere h.sent w away in
-        let rows : filter k (r.rows ++ h.rows) ≡ filter k r.rows = filter_append k r.rows h.rows ∙ ap (λ z. filter k r.rows ++ z) (filter_none k h.rows off) ∙ append-nil (filter k r.rows) in
+        let rows : filter k (r.rows ++ h.rows) ≡ filter k r.rows = filter-append k r.rows h.rows ∙ ap (λ z. filter k r.rows ++ z) (filter_none k h.rows off) ∙ append-nil (filter k r.rows) in
         sym (run_is (part_of engine owner 0 (delivered engine h.sent h.sites)) (part_of engine owner 0 w) (filter k (r.rows ++ h.rows)) (filter k r.rows) sites rows)
 
     step_of : (r : Run engine) (key : Key) → Each Fine r.sites → next_due engine setting.horizon r.sites ≡ Some key → Steps r key

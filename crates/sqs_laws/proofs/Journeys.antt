@@ -26,7 +26,7 @@ use Rattle.sqs_model.proofs.Counts.{all_without, find_all, find_picked, total, t
 use Rattle.sqs_model.proofs.Instance.{total_inserted}
 use Rattle.sqs_model.proofs.Kept.{handled_number}
 use Rattle.sqs_model.proofs.WorldMoves.{is_due_least, least_in}
-use Rattle.sqs_laws.proofs.Left.{same_delivered}
+use Rattle.sqs_laws.proofs.Left.{same_among, same_delivered}
 use Rattle.sqs_laws.proofs.Sent.{IsComing}
 
 -- what is on its way to a site is for it
@@ -48,12 +48,6 @@ map_numbered o m (x ∷ xs) a =
 all_numbered : (os : List Outbound) (m : ℕ) (w : List Site) → IsNumbered sqs m w → IsNumbered sqs m (delivered os w)
 all_numbered [] m w a = a
 all_numbered (o ∷ os) m w a = all_numbered os m (map (delivered_one o) w) (map_numbered o m w a)
-
-same_length : (key : Key) (w : List Site) → length (handled_among key w).sites ≡ length w
-same_length key [] = refl
-same_length key (x ∷ xs) =
-    either (λ (t : Stepped). length t.sites ≡ suc (length xs)) (is_due key (least_due x)) (handled_here (handled key x) xs)
-    (handled_there x (handled_among key xs)) refl (ap suc (same_length key xs))
 
 -- what is delivered is for the site
 one_for : (o : Outbound) (x : Site) (b : Bool) → (o.to == number_of x.core) ≡ b → IsForSite x → IsForSite (if b then accepted o x else x)
@@ -177,7 +171,7 @@ module _ (n : ℕ) (h : Outbound → ℕ) (elsewhere : (o : Outbound) → (o.to 
           let t : Stepped = handled_among key r.sites in
           let a : Among r.sites t = among key r.sites fine k.for in
           let numbers : IsNumbered sqs 0 t.sites = among_numbered key 0 r.sites k.numbers in
-          let many : length t.sites ≡ length r.sites = same_length key r.sites in
+          let many : length t.sites ≡ length r.sites = same_among key r.sites in
           let there : under_way (delivered t.sent t.sites) ≡ under_way t.sites + total h t.sent = all_delivered t.sent t.sites numbers (omega (arith, many, k.within)) in
           let come : total g (r.rows ++ t.rows) + under_way (delivered t.sent t.sites) ≡ total g r.rows + under_way r.sites + total h t.sent =
           omega (arith, total_append g r.rows t.rows, there, a.come) in

@@ -33,7 +33,7 @@ use Rattle.sqs_laws.proofs.Origins as origins
 use Rattle.sqs_laws.proofs.Worlds.{AreNumbered, IsGood, RowLaw, both, every_site}
 
 -- a run has as many sites at its end as at its opening
-same_among : (key : Key) (sites : List Site) → length (handled_among key sites).sites ≡ length sites
+pub same_among : (key : Key) (sites : List Site) → length (handled_among key sites).sites ≡ length sites
 same_among key [] = refl
 same_among key (s ∷ ss) =
     either (λ (t : Stepped). length t.sites ≡ suc (length ss)) (is_due key (least_due s)) (handled_here (handled key s) ss)

@@ -2,6 +2,7 @@
 use Rattle.std.specs.List.{enumerate_from}
 use Rattle.std.specs.Prelude.{Bool, List, None, Some, [], false, filter, flat_map, if◌then◌else◌, map, slice_get, suc, true, ℕ, ◌+◌, ◌++◌, ◌<◌, ◌==◌, ◌∷◌, ◌≡◌}
 use Rattle.std.proofs.Common.{ap, arith, refl, subst, sym, ◌∙◌}
+use Rattle.std.proofs.lemmas.List.Elements.{filter-append}
 use Rattle.sim_engine.specs.declared.edge.Edge.{Edge}
 use Rattle.sim_engine.specs.Laws.{IsSoundSetting}
 use Rattle.sim_engine.specs.Members.{In}
@@ -25,7 +26,7 @@ use Rattle.sqs_model.specs.Ways.{FitsWays, Leads, home_of}
 use Rattle.sqs_model.proofs.Instance.{sqs_laws}
 use Rattle.sqs_model.proofs.Sites.{IsFine, sound_setting}
 use Rattle.sqs_laws.specs.Reach.{DifferOutOfReach, IsSameAt, NoWayLeadsTo, left_at, rows_at}
-use Rattle.sqs_laws.proofs.Apart.{filter_append, one_whole, part_is_run, part_run}
+use Rattle.sqs_laws.proofs.Apart.{one_whole, part_is_run, part_run}
 
 filter_same : {A : Type 0} (p q : A → Bool) (xs : List A) → ((x : A) → p x ≡ q x) → filter p xs ≡ filter q xs
 filter_same p q [] h = refl
@@ -120,7 +121,7 @@ module _ (among : ℕ → Bool) where
   left_in : (sites : List Site) → filter (λ (m : FinalMessage). among m.id.site) (flat_map messages_at sites) ≡ flat_map messages_at (part_of sqs owner 0 sites)
   left_in [] = refl
   left_in (x ∷ xs) =
-      filter_append (λ (m : FinalMessage). among m.id.site) (messages_at x) (flat_map messages_at xs)
+      filter-append (λ (m : FinalMessage). among m.id.site) (messages_at x) (flat_map messages_at xs)
       ∙ by_cases (among x.core.queue.site)
       (λ e. rw (is_among x.core.queue.site ∙ e, left_of x.core.queue true x.core.queue.records e) (ap (λ z. messages_at x ++ z) (left_in xs)))
       (λ e. rw (is_among x.core.queue.site ∙ e, left_of x.core.queue false x.core.queue.records e) (left_in xs))

@@ -14,6 +14,7 @@ use Rattle.sim_clock.specs.Order.{key_cmp}
 use Rattle.sim_engine.specs.declared.edge.Edge.{Edge}
 use Rattle.sim_engine.specs.Laws.{IsSentBy, IsSoundSetting}
 use Rattle.sim_engine.specs.Members.{Each, In}
+use Rattle.sim_engine.proofs.Parts.{each_weaker}
 use Rattle.sqs_message.specs.declared.row.Row.{Row}
 use Rattle.sqs_message.specs.declared.row.RowKind.TheVariants as kinds
 use Rattle.sqs_redrive.specs.declared.settings.QueueSettings.{QueueSettings}
@@ -74,10 +75,6 @@ earlier true x y moment l = by_one (nat_le y moment) refl
 total_less : (f g : Outbound → ℕ) (os : List Outbound) → Each (λ o. f o ≤ g o) os → total f os ≤ total g os
 total_less f g [] h = omega arith
 total_less f g (o ∷ os) h = omega (arith, h.0, total_less f g os h.1)
-
-each_so : (P Q : Outbound → Type 0) → ((o : Outbound) → P o → Q o) → (os : List Outbound) → Each P os → Each Q os
-each_so P Q f [] h = tt
-each_so P Q f (o ∷ os) h = (f o h.0, each_so P Q f os h.1)
 
 -- nothing is expected of a weight that is always nothing
 no_coming : (key : Key) (o : Option Outbound) (c : Core) → IsComing key (λ _. 0) 0 o c
@@ -230,7 +227,7 @@ module _ (s : Scenario) (sound : IsSoundScenario s) (n : ℕ) (within : n < leng
         (handling_weighs key went (λ _. 0) (sent_by key) went_plain (λ r e. refl) (went_pair key) x 0 (λ _. refl) (λ _. no_coming key _ x.core)).sent in
         let less : total awaited (handled key x).sent ≤ total (sent_by key) (handled key x).sent =
         total_less awaited (sent_by key) (handled key x).sent
-        (each_so (IsSentBy sqs (edges s) (home_of s) key (number_of x.core)) (λ o. awaited o ≤ sent_by key o) (takes_time key x) (handled key x).sent (setting.laws.sending key x fine d)) in
+        (each_weaker (IsSentBy sqs (edges s) (home_of s) key (number_of x.core)) (λ o. awaited o ≤ sent_by key o) (takes_time key x) (handled key x).sent (setting.laws.sending key x fine d)) in
         record {
           sent = omega (arith, rows, less);
           come = came n awaited other key arrived x i (arrived_weighs key) (λ p a b. (handling_weighs key (λ _. 0) arrived (λ _. 0) (λ r e. refl) arrived_apart (λ r o j. refl) x p a b).come);
