@@ -1,5 +1,5 @@
 -- The sites of a run that no way leads to from any other site run alone: what happens there is their own one-list run.
-use Rattle.std.specs.Prelude.{Bool, IsNone, List, None, Option, Some, [], cond, false, filter, map, suc, true, zero, ℕ, ◌+◌, ◌++◌, ◌==◌, ◌∷◌, ◌≡◌, ◌⊎◌}
+use Rattle.std.specs.Prelude.{Bool, IsNone, List, None, Option, Some, [], false, filter, map, suc, true, zero, ℕ, ◌+◌, ◌++◌, ◌==◌, ◌∷◌, ◌≡◌, ◌⊎◌}
 use Rattle.std.proofs.Common.{ap, append-nil, arith, inl, inr, refl, subst, sym, ◌∙◌}
 use Rattle.std.proofs.lemmas.Bool.{eqb-true}
 use Rattle.std.proofs.lemmas.List.Elements.{filter-append}

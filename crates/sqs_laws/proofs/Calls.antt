@@ -188,6 +188,7 @@ module _ (key : Key) where
               names = record { there = f; message = ap (λ s. Some (record { site = s; number = n })) e; sure = refl };
               by = p;
               worn = l;
+              out = refl;
               kind = refl;
               to = refl;
               after = refl;

@@ -3,6 +3,7 @@ use Rattle.std.specs.Prelude.{All, List, None, Option, Some, [], false, ℕ, ◌
 use Rattle.std.proofs.Common.{refl, subst, sym, ◌∙◌}
 use Rattle.std.proofs.lemmas.List.{append-nil, append_assoc}
 use Rattle.std.proofs.lemmas.List.Elements.{All-weaker}
+use Rattle.sim_clock.specs.declared.key.Class.TheVariants.{Expiry}
 use Rattle.sim_clock.specs.declared.key.Key.{Key}
 use Rattle.sqs_message.specs.declared.message.Message.{Message}
 use Rattle.sqs_message.specs.declared.row.Row.{Row}
@@ -22,6 +23,7 @@ use Rattle.sqs_model.proofs.Counts.{all_changed, find_all}
 use Rattle.sqs_model.proofs.SiteAccounts.{IsDueThere, IsFound}
 use Rattle.sqs_laws.proofs.Giving.{AreKnown, IsGiven, most_given}
 use Rattle.sqs_laws.proofs.Holding.{HearsOfKnown, IsInformed, ServesKnown, informed_later, known_later, next_acts}
+use Rattle.sqs_laws.proofs.Numbers.{IsOver}
 use Rattle.sqs_laws.proofs.Moves.{Chain, IsStocked, Keeps, chain_append, chain_keeps, one_move}
 use Rattle.sqs_laws.proofs.Rows.{IsChain, arrived_chain, change_chain, delete_chain, expiry_chain, quiet_move, release_chain, sends_chain, serve_chain, step_chain}
 
@@ -133,9 +135,9 @@ module _ (key : Key) (start : Queue) (fine : IsStocked start) where
         serves = λ rows a c id r failed o m h. extends rows c _ h (serve_chain key a c id r failed o m.0 m.1);
       }
 
-  expires_by : (rows : List Row) (c : Core) (o : Option Message) → numbered key.number c.queue.records ≡ o → IsFound o → At rows c → After rows (handle_expiry key c)
-  expires_by rows c None f t h = absurd t
-  expires_by rows c (Some m) f t h = extends rows c (handle_expiry key c) h (expiry_chain key c m f)
+  expires_by : (rows : List Row) (c : Core) (o : Option Message) → numbered key.number c.queue.records ≡ o → IsFound o → IsOver key c → At rows c → After rows (handle_expiry key c)
+  expires_by rows c None f t l h = absurd t
+  expires_by rows c (Some m) f t l h = extends rows c (handle_expiry key c) h (expiry_chain key c m f (l m f))
 
   releases_by : (rows : List Row) (c : Core) (o : Option Message) → numbered key.number c.queue.records ≡ o → IsFound o → At rows c → After rows (release_done key c (released c.queue key.number))
   releases_by rows c None f t h = absurd t
@@ -144,11 +146,11 @@ module _ (key : Key) (start : Queue) (fine : IsStocked start) where
   abbrev due : DueLaw key chains
   due =
       record {
-        IsDue = IsDueThere key;
+        IsDue = λ k c. IsDueThere key k c × (k ≡ Expiry → IsOver key c);
         answers = λ rows c h. record { chain = h.chain; actors = h.actors };
         ends = λ rows c h. record { chain = h.chain; actors = h.actors };
-        expires = λ rows c d h. expires_by rows c (numbered key.number c.queue.records) refl d h;
-        releases = λ rows c d h. releases_by rows c (numbered key.number c.queue.records) refl d h;
+        expires = λ rows c d h. expires_by rows c (numbered key.number c.queue.records) refl d.0 (d.1 refl) h;
+        releases = λ rows c d h. releases_by rows c (numbered key.number c.queue.records) refl d.0 h;
         Comes = λ rows o c. At rows c;
         absent = λ rows c h. h;
         arrives = λ rows o c h. extends rows c (arrival_done key o.load c (arrived c.queue key.at o.load)) h (arrived_chain key c o.load (stocked rows c h));
@@ -161,8 +163,8 @@ pub record IsMoved (key : Key) (c : Core) (rows : List Row) (d : Core) : Type 0 
   pub chain : Chain key c.queue rows d.queue
   pub order : IsInOrder d
 
-pub handled_moves : (key : Key) (s : Site) → IsInOrder s.core → (is_arrival key.class ≡ false → IsDueThere key key.class s.core) → IsMoved key s.core (handled key s).rows (handled key s).site.core
-handled_moves key s i d =
+pub handled_moves : (key : Key) (s : Site) → IsInOrder s.core → (is_arrival key.class ≡ false → IsDueThere key key.class s.core) → (key.class ≡ Expiry → IsOver key s.core) → IsMoved key s.core (handled key s).rows (handled key s).site.core
+handled_moves key s i d l =
     let start : At key s.core.queue i.stocked [] s.core = record { chain = refl; actors = i.actors } in
-    let h : At key s.core.queue i.stocked (handled key s).rows (handled key s).site.core = handled_goes key (chains key s.core.queue i.stocked) (due key s.core.queue i.stocked) [] s (λ e. (d e, start)) (λ _. start) in
+    let h : At key s.core.queue i.stocked (handled key s).rows (handled key s).site.core = handled_goes key (chains key s.core.queue i.stocked) (due key s.core.queue i.stocked) [] s (λ e. ((d e, l), start)) (λ _. start) in
     record { chain = h.chain; order = record { stocked = stocked key s.core.queue i.stocked (handled key s).rows (handled key s).site.core h; actors = h.actors } }

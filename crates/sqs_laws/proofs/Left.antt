@@ -4,7 +4,7 @@ use Rattle.std.specs.Prelude.{All, Bool, List, None, Option, Some, [], cond, fal
 use Rattle.std.proofs.Common.{ap, arith, refl, subst, sym, ◌∙◌}
 use Rattle.std.proofs.lemmas.Bool.{eqb-false, eqb-true}
 use Rattle.std.proofs.lemmas.List.{length-map, map-append}
-use Rattle.std.proofs.lemmas.List.Elements.{All-append, All-cons, All-head, All-map, All-nil, All-tail, All-weaker}
+use Rattle.std.proofs.lemmas.List.Elements.{All-append, All-head, All-map, All-nil, All-tail, All-weaker}
 use Rattle.std.proofs.lemmas.List.FromFn.{length-enumerate_from}
 use Rattle.sim_clock.specs.declared.key.Key.{Key}
 use Rattle.sqs_message.specs.declared.ids.MessageId.{MessageId}
@@ -22,13 +22,14 @@ use Rattle.sqs_model.specs.Step.{handled}
 use Rattle.sqs_model.specs.Valid.{IsQueueSettings}
 use Rattle.sqs_model.specs.World.{Stepped, delivered, delivered_one, handled_among, handled_here, handled_there, is_due, next_due, stepped_at}
 use Rattle.sqs_model.proofs.Branches.{either}
-use Rattle.sqs_model.proofs.Numbered.{Climbs, climbs_from, has_its_number}
+use Rattle.sqs_model.proofs.Numbered.{Climbs}
 use Rattle.sqs_laws.specs.Laws.{WhatIsLeft}
 use Rattle.sqs_laws.specs.Words.{comings, flying, has_left, is_in_flight, origin_of, that_stay, times}
 use Rattle.sqs_laws.proofs.End as end
 use Rattle.sqs_laws.proofs.Flights as fly
 use Rattle.sqs_laws.proofs.Letters as letters
 use Rattle.sqs_laws.proofs.Moves.{IsStocked}
+use Rattle.sqs_laws.proofs.Numbers.{found_all, found_by, none_below}
 use Rattle.sqs_laws.proofs.Origins as origins
 use Rattle.sqs_laws.proofs.Worlds.{AreNumbered, IsGood, RowLaw, both, every_site}
 
@@ -57,17 +58,6 @@ all_sites s r is =
     let many : length (after s.horizon is.steps (opening s)).sites ≡ length s.queues =
     same_after s.horizon is.steps (opening s) ∙ length-map (enumerate_from 0 s.queues) (opening_site s) ∙ length-enumerate_from 0 s.queues in
     subst (λ (x : Run). length x.sites ≡ length s.queues) is.reached many
-
--- a message of another number is not the one that is looked for
-found_by : (b : Bool) (i : ℕ) (m : Message) (ms : List Message) → has_number i m ≡ b → is_some (numbered i (m ∷ ms)) ≡ cond b true (is_some (numbered i ms))
-found_by true i m ms e = rw e refl
-found_by false i m ms e = rw e refl
-
-none_below : (i : ℕ) (ms : List Message) → Climbs (i + 1) ms → is_some (numbered i ms) ≡ false
-none_below i [] h = refl
-none_below i (m ∷ ms) h =
-    let far : has_number i m ≡ false = grind (arith, h.0) in
-    found_by false i m ms far ∙ none_below i ms (climbs_from (i + 1) (m.number + 1) ms (omega (arith, h.0)) h.1)
 
 -- the numbers from one on at which there is a message are those of the messages, if these go up from there
 module _ (q : Queue) (g : MessageId → Bool) where
@@ -113,24 +103,6 @@ module _ (q : Queue) (g : MessageId → Bool) where
 
 from_none : (many : ℕ) (ms : List Message) → All (λ m. m.number < many) ms → All (λ m. m.number < 0 + many) ms
 from_none many ms l = All-weaker (λ m. m.number < many) (λ m. m.number < 0 + many) (λ m k. omega (arith, k)) ms l
-
--- what holds of each message of its number holds of all
-other_found : (b : Bool) (n : ℕ) (m x : Message) (ms : List Message) → Climbs (m.number + 1) ms → has_number n m ≡ b → numbered n ms ≡ Some x → numbered n (m ∷ ms) ≡ Some x
-other_found true n m x ms c e f =
-    let is : m.number ≡ n = eqb-true m.number n e in
-    let none : is_some (numbered n ms) ≡ false = none_below n ms (subst (λ k. Climbs (k + 1) ms) is c) in
-    let some : is_some (numbered n ms) ≡ true = ap is_some f in
-    cc
-other_found false n m x ms c e f = rw e f
-
-own_found : (m : Message) (ms : List Message) → numbered m.number (m ∷ ms) ≡ Some m
-own_found m ms = let own : has_number m.number m ≡ true = has_its_number m in rw own refl
-
-found_all : (P : Message → Type 0) (low : ℕ) (ms : List Message) → Climbs low ms → ((n : ℕ) (m : Message) → numbered n ms ≡ Some m → n ≡ m.number → P m) → All P ms
-found_all P low [] c h = All-nil P
-found_all P low (m ∷ ms) c h =
-    All-cons P m ms (h m.number m (own_found m ms) refl)
-    (found_all P (m.number + 1) ms c.1 (λ n x e k. h n x (other_found (has_number n m) n m x ms c.1 refl e) k))
 
 map_finals : (q : Queue) (ms : List Message) → map (λ (m : FinalMessage). m.id) (map (final_message q) ms) ≡ map (λ m. id_of q m.number) ms
 map_finals q [] = refl

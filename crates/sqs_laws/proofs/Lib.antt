@@ -22,3 +22,5 @@ pub mod Reach
 pub mod Sent
 pub mod Journeys
 pub mod Told
+pub mod Ages
+pub mod Numbers

@@ -1,5 +1,5 @@
 -- What a row of a handling did to its queue.
-use Rattle.std.specs.Prelude.{All, Bool, Err, List, None, Ok, Option, Result, Some, [], false, true, ℕ, ◌+◌, ◌++◌, ◌<◌, ◌∷◌, ◌≡◌, ◌≤◌, ◌⊎◌}
+use Rattle.std.specs.Prelude.{All, Bool, Err, List, None, Ok, Option, Result, Some, [], false, true, ℕ, ◌+◌, ◌++◌, ◌<◌, ◌∷◌, ◌≡◌, ◌≤◌, ◌⊎◌, ◌-◌, ◌||◌}
 use Rattle.std.proofs.Common.{arith, refl, subst, sym, ◌∙◌}
 use Rattle.std.proofs.lemmas.List.Elements.{All-push, All-weaker}
 use Rattle.sim_clock.specs.declared.key.Key.{Key}
@@ -21,7 +21,7 @@ use Rattle.sqs_redrive.specs.declared.answers.Deleted.TheVariants.{Gone, Kept, R
 use Rattle.sqs_redrive.specs.declared.settings.Policy.{Policy}
 use Rattle.sqs_redrive.specs.declared.transfers.Load.{Load}
 use Rattle.sqs_redrive.specs.MoveTasks.{is_worn}
-use Rattle.sqs_model.specs.Accounts.{origin_in}
+use Rattle.sqs_model.specs.Accounts.{is_deleted, is_expired, origin_in}
 use Rattle.sqs_model.specs.Queue.{Entry, Queue, has_number, id_of, in_flight, is_in_flight, is_visible, numbered, taken_out, with_change}
 use Rattle.sqs_model.specs.Calls.{change, delete, in_flight_until, with_message}
 use Rattle.sqs_model.specs.Receive.{received}
@@ -95,6 +95,7 @@ module _ (key : Key) (q : Queue) (r : Row) (p : Queue) where
     pub fresh : one.receives ≡ 0
     pub rests : is_in_flight one ≡ false
     pub told : origin_in r (Some (id_of q q.arrivals)) ≡ Some one.origin
+    pub sent : words.is_send r.kind ≡ true → (one.enqueued ≡ key.at) × (one.source ≡ None)
     pub old : All (λ e. e.number < q.arrivals + 1) entries
     pub after : with_message (record q { entries = entries }) one ≡ p
 
@@ -146,6 +147,7 @@ module _ (key : Key) (q : Queue) (r : Row) (p : Queue) where
     pub by : q.settings.policy ≡ Some policy
     pub worn : is_worn policy one ≡ true
     pub kind : words.is_redrive r.kind ≡ true
+    pub out : (is_deleted r.answer || is_expired r.answer) ≡ false
     pub to : r.detail ≡ details.Queue policy.dead_letter
     pub after : taken_out q number ≡ p
 
@@ -157,6 +159,8 @@ module _ (key : Key) (q : Queue) (r : Row) (p : Queue) where
     pub names : Names one number
     pub kind : words.is_redrive r.kind ≡ false
     pub rested : words.is_move r.kind ≡ true → is_visible one ≡ true
+    pub age : one.source ≡ None → (is_deleted r.answer || is_expired r.answer) ≡ true → r.detail ≡ details.Age (key.at - one.enqueued)
+    pub due : one.source ≡ None → is_expired r.answer ≡ true → key.at ≡ one.enqueued + q.settings.retention
     pub after : taken_out q number ≡ p
 
   pub data Does : Type 0 where

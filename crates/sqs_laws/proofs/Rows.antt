@@ -1,7 +1,8 @@
 -- The rows of each other call, and of what is due, are a chain of single moves.
 use Rattle.std.specs.Str.{bytes_eq}
-use Rattle.std.specs.Prelude.{All, Bool, Err, List, None, Ok, Option, Result, Some, [], false, get_or, if◌then◌else◌, length, nat_lt, take, true, ℕ, ◌&&◌, ◌*◌, ◌+◌, ◌++◌, ◌<◌, ◌==◌, ◌∷◌, ◌≡◌, ◌≢◌, ◌||◌}
+use Rattle.std.specs.Prelude.{All, Bool, Err, List, None, Ok, Option, Result, Some, [], false, get_or, if◌then◌else◌, length, nat_lt, take, true, ℕ, ◌&&◌, ◌*◌, ◌+◌, ◌++◌, ◌<◌, ◌==◌, ◌∷◌, ◌≡◌, ◌≢◌, ◌||◌, ◌-◌, ◌≤◌}
 use Rattle.std.proofs.Common.{ap, arith, inl, inr, refl, subst, sym, ◌∙◌}
+use Rattle.std.proofs.lemmas.Bool.{leb-true}
 use Rattle.std.proofs.lemmas.Bool.Decides.{nat_tests}
 use Rattle.std.proofs.lemmas.List.Elements.{All-filter, All-head, All-push, All-tail, All-take, All-weaker}
 use Rattle.sim_clock.specs.declared.key.Key.{Key}
@@ -38,7 +39,7 @@ use Rattle.sqs_model.specs.Queue.{Entry, Queue, has_number, id_of, is_in_flight,
 use Rattle.sqs_model.specs.Return.{leaves, redrive_of, released, released_found, released_when, visible_again}
 use Rattle.sqs_model.specs.Site.{Core, Effect, and_then, number_of, says, with_queue}
 use Rattle.sqs_model.specs.Arrive.{arrived, brought, enqueued_at, expired_found, forwarded, forwarded_group, is_too_old, sent_of, settled_when}
-use Rattle.sqs_model.specs.Step.{Moved, arrival_done, end_row, load_origin, handle_step, moves, one_sent, expiry_done, handle_expiry, release_done}
+use Rattle.sqs_model.specs.Step.{Moved, arrival_done, end_row, load_age, load_origin, handle_step, moves, one_sent, expiry_done, handle_expiry, release_done}
 use Rattle.sqs_model.specs.Available.{all_available, all_hosts}
 use Rattle.sqs_model.specs.Draw.{drawn_latency}
 use Rattle.sqs_model.specs.Task.{Taken, Task, destination, take_each, take_movable, taken_one}
@@ -144,10 +145,10 @@ module _ (key : Key) where
   refused_sent : (a : Actor) (c : Core) (body : List ℕ) (e : Refusal) → IsSent a c body (Err e, c.queue)
   refused_sent a c body e = one_row c c _ refl refl refl tt (stays (nameless_stays key c.queue _ refl (tells _ false false false false false refl refl refl refl refl)))
 
-  new_sent : (a : Actor) (c : Core) (body : List ℕ) (m : Message) (entries : List Entry) → m.number ≡ c.queue.arrivals → m.receives ≡ 0 → is_in_flight m ≡ false → record { site = c.queue.site; number = c.queue.arrivals } ≡ m.origin → All (λ e. e.number < c.queue.arrivals + 1) entries → IsSent a c body (Ok (New (id_of c.queue c.queue.arrivals)), with_message (record c.queue { entries = entries }) m)
-  new_sent a c body m entries n f r g o =
+  new_sent : (a : Actor) (c : Core) (body : List ℕ) (m : Message) (entries : List Entry) → m.number ≡ c.queue.arrivals → m.receives ≡ 0 → is_in_flight m ≡ false → record { site = c.queue.site; number = c.queue.arrivals } ≡ m.origin → (m.enqueued ≡ key.at) × (m.source ≡ None) → All (λ e. e.number < c.queue.arrivals + 1) entries → IsSent a c body (Ok (New (id_of c.queue c.queue.arrivals)), with_message (record c.queue { entries = entries }) m)
+  new_sent a c body m entries n f r g d o =
       one_row c (with_queue c (with_message (record c.queue { entries = entries }) m)) _ refl refl refl tt
-      (comes (record { one = m; entries = entries; tells = tells _ true false false false false refl refl refl refl refl; message = refl; number = n; fresh = f; rests = r; told = ap (λ x. Some x) g; old = o; after = refl }))
+      (comes (record { one = m; entries = entries; tells = tells _ true false false false false refl refl refl refl refl; message = refl; number = n; fresh = f; rests = r; told = ap (λ x. Some x) g; sent = λ _. d; old = o; after = refl }))
 
   repeat_sent : (a : Actor) (c : Core) (body : List ℕ) (n : ℕ) → n < c.queue.arrivals → IsSent a c body (Ok (Repeat (id_of c.queue n)), c.queue)
   repeat_sent a c body n l = one_row c c _ refl refl refl tt (stays (named_stays c.queue _ n refl (tells _ false false false false false refl refl refl refl refl) l (λ h. cc) (λ h. cc)))
@@ -166,7 +167,7 @@ module _ (key : Key) where
 
   unless_sent : (a : Actor) (c : Core) (body given group : List ℕ) (scope : Option (List ℕ)) (id : List ℕ) (o : Option Entry) → living c.queue key.at scope id ≡ o → IsStocked c.queue → IsSent a c given (send_unless c.queue key.at body group scope id o)
   unless_sent a c body given group scope id None f s =
-      new_sent a c given (new_message c.queue key.at body (Some group) c.queue.settings.delay) (with_entry c.queue key.at scope id).entries refl refl (rests_at c.queue body (Some group) c.queue.settings.delay) refl (more_entries c.queue scope id s)
+      new_sent a c given (new_message c.queue key.at body (Some group) c.queue.settings.delay) (with_entry c.queue key.at scope id).entries refl refl (rests_at c.queue body (Some group) c.queue.settings.delay) refl (refl, refl) (more_entries c.queue scope id s)
   unless_sent a c body given group scope id (Some e) f s =
       repeat_sent a c given e.number (find_all (λ (x : Entry). nat_lt key.at x.end && same_text x.scope scope && bytes_eq x.id id) (λ x. x.number < c.queue.arrivals) c.queue.entries e s.entries f)
 
@@ -178,7 +179,7 @@ module _ (key : Key) where
   pub sends_chain : (k : Kind) (a : Actor) (c : Core) (body : List ℕ) (delay : Option ℕ) (group id : Option (List ℕ)) → IsStocked c.queue → IsSent a c body (sends k c.queue key.at body delay group id)
   sends_chain (Standard hosts sampled) a c body delay group id s =
       either (IsSent a c body) (is_bad_delay 900 delay) _ _ (refused_sent a c body refusals.BadDelay)
-      (new_sent a c body (new_message c.queue key.at body None (delay_of c.queue delay)) c.queue.entries refl refl (rests_at c.queue body None (delay_of c.queue delay)) refl (old_entries c.queue s))
+      (new_sent a c body (new_message c.queue key.at body None (delay_of c.queue delay)) c.queue.entries refl refl (rests_at c.queue body None (delay_of c.queue delay)) refl (refl, refl) (old_entries c.queue s))
   sends_chain (Fifo content scope) a c body delay group id s =
       either (IsSent a c body) (is_bad_delay 0 delay) _ _ (refused_sent a c body refusals.BadDelay) (with_sent a c scope body group (deduplication_id content body id) s)
 
@@ -213,7 +214,7 @@ module _ (key : Key) where
               (stays (named_stays c.queue _ r.number refl (tells _ false false false false false refl refl refl refl refl) (found_old c.queue r.number m s f) (λ h. subst IsFound (sym f) tt) (λ h. cc)));
           taken = λ m f e.
               one_row c (with_queue c (taken_out c.queue r.number)) _ refl refl refl (asks_delete _ _ refl refl e)
-              (ends (record { one = m; number = r.number; tells = tells _ false false false false true refl refl refl refl refl; names = record { there = f; message = refl; sure = refl }; kind = refl; rested = λ e. cc; after = refl }));
+              (ends (record { one = m; number = r.number; tells = tells _ false false false false true refl refl refl refl refl; names = record { there = f; message = refl; sure = refl }; kind = refl; rested = λ e. cc; age = λ n t. refl; due = λ n t. cc; after = refl }));
         }) c.queue.settings.kind
 
   delete_chain_of : (a : Actor) (c : Core) (text : List ℕ) (o : Option Receipt) → read_receipt text ≡ o → IsStocked c.queue → IsChain c (delete_made key a c text o).effect
@@ -311,11 +312,11 @@ module _ (key : Key) where
   change_chain a c text timeout s = change_chain_of a c text timeout (read_receipt text) refl s
 
   -- what is due of messages
-  pub expiry_chain : (c : Core) (m : Message) → numbered key.number c.queue.records ≡ Some m → IsChain c (handle_expiry key c)
-  expiry_chain c m f =
+  pub expiry_chain : (c : Core) (m : Message) → numbered key.number c.queue.records ≡ Some m → key.at ≡ m.enqueued + c.queue.settings.retention → IsChain c (handle_expiry key c)
+  expiry_chain c m f l =
       subst (λ x. IsChain c (expiry_done key c (expired_found c.queue key.at key.number x))) (sym f)
       (one_row c (with_queue c (taken_out c.queue key.number)) _ refl refl refl tt
-      (ends (record { one = m; number = key.number; tells = tells _ false false false false true refl refl refl refl refl; names = record { there = f; message = refl; sure = refl }; kind = refl; rested = λ e. cc; after = refl })))
+      (ends (record { one = m; number = key.number; tells = tells _ false false false false true refl refl refl refl refl; names = record { there = f; message = refl; sure = refl }; kind = refl; rested = λ e. cc; age = λ n t. refl; due = λ n t. l; after = refl })))
 
   pub release_chain : (c : Core) (m : Message) → IsStocked c.queue → numbered key.number c.queue.records ≡ Some m → IsChain c (release_done key c (released c.queue key.number))
   release_chain c m s f =
@@ -334,26 +335,26 @@ module _ (key : Key) where
   abbrev IsArrived : Core → Load → (Sent × Bool) × Queue → Type 0
   IsArrived c load x = IsChain c (arrival_done key load c x)
 
-  come_move : (c : Core) (r : Row) (m : Message) (entries : List Entry) → r.key ≡ key → r.queue ≡ c.queue.site → r.message ≡ Some (id_of c.queue c.queue.arrivals) → Asks key c.queue r r.kind → Tells r true false false false false → m.number ≡ c.queue.arrivals → m.receives ≡ 0 → is_in_flight m ≡ false → origin_in r (Some (id_of c.queue c.queue.arrivals)) ≡ Some m.origin → All (λ e. e.number < c.queue.arrivals + 1) entries → Move key c.queue r (with_message (record c.queue { entries = entries }) m)
-  come_move c r m entries k s i y t n f l g o = record { at_key = k; at_site = s; asked = y; does = comes (record { one = m; entries = entries; tells = t; message = i; number = n; fresh = f; rests = l; told = g; old = o; after = refl }) }
+  come_move : (c : Core) (r : Row) (m : Message) (entries : List Entry) → r.key ≡ key → r.queue ≡ c.queue.site → r.message ≡ Some (id_of c.queue c.queue.arrivals) → Asks key c.queue r r.kind → Tells r true false false false false → m.number ≡ c.queue.arrivals → m.receives ≡ 0 → is_in_flight m ≡ false → origin_in r (Some (id_of c.queue c.queue.arrivals)) ≡ Some m.origin → words.is_send r.kind ≡ false → All (λ e. e.number < c.queue.arrivals + 1) entries → Move key c.queue r (with_message (record c.queue { entries = entries }) m)
+  come_move c r m entries k s i y t n f l g d o = record { at_key = k; at_site = s; asked = y; does = comes (record { one = m; entries = entries; tells = t; message = i; number = n; fresh = f; rests = l; told = g; sent = λ t. cc; old = o; after = refl }) }
 
-  settled_chain : (b : Bool) (c : Core) (load : Load) (m : Message) → m.number ≡ c.queue.arrivals → m.receives ≡ 0 → is_in_flight m ≡ false → load_origin load (id_of c.queue c.queue.arrivals) ≡ m.origin → IsStocked c.queue → IsArrived c load (settled_when b c.queue m)
-  settled_chain false c load m n f l g s =
-      record { chain = one_move key c.queue _ _ (come_move c _ m c.queue.entries refl refl refl tt (tells _ true false false false false refl refl refl refl refl) n f l (ap (λ x. Some x) g) (old_entries c.queue s)); actors = refl }
-  settled_chain true c load m n f l g s =
+  settled_chain : (b : Bool) (c : Core) (load : Load) (m : Message) → m.number ≡ c.queue.arrivals → m.receives ≡ 0 → is_in_flight m ≡ false → load_origin load (id_of c.queue c.queue.arrivals) ≡ m.origin → (m.source ≡ None → load_age load key.at ≡ key.at - m.enqueued) → (m.source ≡ None → b ≡ true → key.at ≡ m.enqueued + c.queue.settings.retention) → IsStocked c.queue → IsArrived c load (settled_when b c.queue m)
+  settled_chain false c load m n f l g d w s =
+      record { chain = one_move key c.queue _ _ (come_move c _ m c.queue.entries refl refl refl tt (tells _ true false false false false refl refl refl refl refl) n f l (ap (λ x. Some x) g) refl (old_entries c.queue s)); actors = refl }
+  settled_chain true c load m n f l g d w s =
       let q : Queue = c.queue in
       let x : Queue = with_message q m in
       let gone : taken_out x q.arrivals ≡ record q { arrivals = q.arrivals + 1 } = ap (λ records. record q { records = records; arrivals = q.arrivals + 1 }) (pushed_out q.arrivals q.records m n s.given_out) in
       record {
         chain = (
           x,
-          come_move c _ m q.entries refl refl refl tt (tells _ true false false false false refl refl refl refl refl) n f l (ap (λ x. Some x) g) (old_entries q s),
+          come_move c _ m q.entries refl refl refl tt (tells _ true false false false false refl refl refl refl refl) n f l (ap (λ x. Some x) g) refl (old_entries q s),
           one_move key x _ (record q { arrivals = q.arrivals + 1 })
               (record {
                 at_key = refl;
                 at_site = refl;
                 asked = tt;
-                does = ends (record { one = m; number = q.arrivals; tells = tells _ false false false false true refl refl refl refl refl; names = record { there = pushed_found q.arrivals q.records m n s.given_out; message = refl; sure = refl }; kind = refl; rested = λ e. cc; after = gone });
+                does = ends (record { one = m; number = q.arrivals; tells = tells _ false false false false true refl refl refl refl refl; names = record { there = pushed_found q.arrivals q.records m n s.given_out; message = refl; sure = refl }; kind = refl; rested = λ e. cc; age = λ y t. ap details.Age (d y); due = λ y t. w y refl; after = gone });
               }),
         );
         actors = refl;
@@ -361,7 +362,7 @@ module _ (key : Key) where
 
   new_come : (c : Core) (id : MessageId) (group : Option (List ℕ)) (body : List ℕ) (m : Message) (entries : List Entry) → m.number ≡ c.queue.arrivals → m.receives ≡ 0 → is_in_flight m ≡ false → record { site = c.queue.site; number = c.queue.arrivals } ≡ m.origin → All (λ e. e.number < c.queue.arrivals + 1) entries → IsArrived c (Forward id group body) ((New (id_of c.queue c.queue.arrivals), false), with_message (record c.queue { entries = entries }) m)
   new_come c id group body m entries n f l g o =
-      record { chain = one_move key c.queue _ _ (come_move c _ m entries refl refl refl tt (tells _ true false false false false refl refl refl refl refl) n f l (ap (λ x. Some x) g) o); actors = refl }
+      record { chain = one_move key c.queue _ _ (come_move c _ m entries refl refl refl tt (tells _ true false false false false refl refl refl refl refl) n f l (ap (λ x. Some x) g) refl o); actors = refl }
 
   unless_come : (c : Core) (id : MessageId) (g : Option (List ℕ)) (b body group : List ℕ) (scope : Option (List ℕ)) (text : List ℕ) (o : Option Entry) → living c.queue key.at scope text ≡ o → IsStocked c.queue → IsArrived c (Forward id g b) (sent_of c.queue (send_unless c.queue key.at body group scope text o))
   unless_come c id g b body group scope text None f s =
@@ -383,10 +384,10 @@ module _ (key : Key) where
   pub arrived_chain : (c : Core) (load : Load) → IsStocked c.queue → IsArrived c load (arrived c.queue key.at load)
   arrived_chain c (Redrive id group origin body enqueued) s =
       let m : Message = brought c.queue key.at origin body group (enqueued_at c.queue.settings.kind key.at enqueued) (Some id.site) in
-      settled_chain (is_too_old c.queue key.at m) c (Redrive id group origin body enqueued) m refl refl refl refl s
+      settled_chain (is_too_old c.queue key.at m) c (Redrive id group origin body enqueued) m refl refl refl refl (λ y. cc) (λ y. cc) s
   arrived_chain c (Moves id group origin body) s =
       let m : Message = brought c.queue key.at origin body group key.at None in
-      settled_chain (is_too_old c.queue key.at m) c (Moves id group origin body) m refl refl refl refl s
+      settled_chain (is_too_old c.queue key.at m) c (Moves id group origin body) m refl refl refl refl (λ y. omega arith) (λ y t. let none : c.queue.settings.retention ≤ key.at - key.at = leb-true c.queue.settings.retention (key.at - key.at) t in omega (arith, none)) s
   arrived_chain c (Forward id group body) s = forwarded_chain c.queue.settings.kind c id body group s
 
   -- steps of tasks
@@ -418,6 +419,8 @@ module _ (key : Key) where
                       names = record { there = All-head (λ y. numbered y.number q.records ≡ Some y) m ms s; message = refl; sure = refl };
                       kind = refl;
                       rested = λ _. All-head (λ y. is_visible y ≡ true) m ms v;
+                      age = λ y t. cc;
+                      due = λ y t. cc;
                       after = refl;
                     });
               },

@@ -24,6 +24,7 @@ use Rattle.sqs_model.proofs.WorldMoves.{is_due_least, least_in}
 use Rattle.sqs_laws.specs.Words.{EachRow}
 use Rattle.sqs_laws.proofs.Chains.{IsInOrder, IsMoved, handled_moves}
 use Rattle.sqs_laws.proofs.Holding.{IsInformed}
+use Rattle.sqs_laws.proofs.Numbers.{due_over}
 use Rattle.sqs_laws.proofs.Moves.{Chain, IsStocked, Keeps, Move, chain_keeps, does_keep, moves_own}
 
 -- a row names no message of another queue
@@ -117,7 +118,7 @@ module _ (scenario : Scenario) (law : RowLaw scenario) where
   here_steps key by rows n s ss g a d =
       let one : IsGood rows s = All-head (IsGood rows) s ss g in
       let h : Handled = handled key s in
-      let moved : IsMoved key s.core h.rows h.site.core = handled_moves key s one.order (λ _. due_fits s key (least_in (dues s) key d)) in
+      let moved : IsMoved key s.core h.rows h.site.core = handled_moves key s one.order (λ _. due_fits s key (least_in (dues s) key d)) (due_over key s one.order.stocked (least_in (dues s) key d)) in
       let p : Passes rows h.rows s.core.queue h.site.core.queue = chain_passes key by h.rows rows s.core.queue h.site.core.queue moved.chain one.order.stocked one.holds in
       let site : number_of s.core ≡ number_of h.site.core = (chain_keeps key h.rows s.core.queue h.site.core.queue moved.chain one.order.stocked).site in
       let others : All (λ x. n + 1 ≤ number_of x.core) ss = above (n + 1) ss a.1 in

@@ -1,7 +1,7 @@
 -- The rules of SQS as laws of the log: of its rows, in order, and of the settings of its scenario, and of nothing
 -- else.
 use Rattle.std.specs.List.{range_with_len}
-use Rattle.std.specs.Prelude.{All, Bool, IsTrue, List, None, Some, count_by, false, flat_map, length, map, true, if◌then◌else◌, nat_le, nat_lt, not, slice_get, ℕ, ◌&&◌, [], ◌+◌, ◌++◌, ◌<◌, ◌==◌, ◌∷◌, ◌≡◌, ◌≤◌, ◌⊎◌, ◌||◌}
+use Rattle.std.specs.Prelude.{All, Bool, IsTrue, List, None, Some, count_by, false, flat_map, length, map, true, if◌then◌else◌, nat_le, nat_lt, not, slice_get, ℕ, ◌&&◌, [], ◌+◌, ◌++◌, ◌-◌, ◌<◌, ◌==◌, ◌∷◌, ◌≡◌, ◌≤◌, ◌⊎◌, ◌||◌}
 use Rattle.sim_clock.specs.declared.refusal.Refusal.TheVariants as refusals
 use Rattle.sqs_message.specs.declared.ids.MessageId.{MessageId}
 use Rattle.sqs_message.specs.declared.ids.Origin.{Origin}
@@ -15,10 +15,11 @@ use Rattle.sqs_redrive.specs.declared.settings.Kind.{Kind}
 use Rattle.sqs_redrive.specs.declared.settings.Kind.TheVariants.{Fifo, Standard}
 use Rattle.sqs_redrive.specs.declared.settings.Policy.{Policy}
 use Rattle.sqs_redrive.specs.declared.settings.QueueSettings.{QueueSettings}
+use Rattle.sqs_model.specs.Accounts.{is_deleted, is_expired}
 use Rattle.sqs_model.specs.declared.finals.FinalMessage.{FinalMessage}
 use Rattle.sqs_model.specs.declared.finals.FinalTransfer.{FinalTransfer}
 use Rattle.sqs_model.specs.Scenario.{Scenario, least_latency}
-use Rattle.sqs_laws.specs.Words.{EachNaming, EachRow, arrives_at, changed, comes, comings, flying, goes_to, has_left, in_flight_at, is_change, is_delete, is_gone, is_in_flight, is_move, is_redrive, is_release, may_follow, origin_of, received, that_stay, times}
+use Rattle.sqs_laws.specs.Words.{EachNaming, EachRow, arrives_at, changed, comes, comings, flying, goes_to, has_left, in_flight_at, is_change, is_delete, is_gone, is_in_flight, is_move, is_redrive, is_release, may_follow, origin_of, received, sent_at, that_stay, times}
 
 -- The end is the end. The messages that come to a queue are numbered from 0 on, and no row names one before it comes.
 -- Once it was deleted, has expired, or left for another queue, only answers gone and repeat and a consumer's fail and
@@ -113,6 +114,15 @@ pub record Origins (rows : List Row) : Type 0 where
   pub told : EachNaming rows (λ before r m. IsTrue (received r)
       → (o : Origin) × (origin_of m before ≡ Some o) × (r.detail ≡ details.From o))
 
+-- Ages. Of a message that was sent to its queue a delete or an expiry tells how long ago that was. It expires exactly at the
+-- end of the queue's retention period.
+pub record Ages (s : Scenario) (rows : List Row) : Type 0 where
+  pub told : EachNaming rows (λ before r m. IsTrue (is_deleted r.answer || is_expired r.answer)
+      → (sent : ℕ) → sent_at m before ≡ Some sent → r.detail ≡ details.Age (r.key.at - sent))
+  pub expiry : EachNaming rows (λ before r m. IsTrue (is_expired r.answer)
+      → (sent : ℕ) → sent_at m before ≡ Some sent
+      → (q : QueueSettings) → slice_get s.queues r.queue ≡ Some q → r.key.at ≡ sent + q.retention)
+
 -- Time. Rows are in the order of time, none after the horizon.
 pub record InTime (s : Scenario) (rows : List Row) : Type 0 where
   pub order : EachRow rows (λ before r. All (λ x. x.key.at ≤ r.key.at) before)
@@ -125,6 +135,7 @@ pub record KeepsTheRules (s : Scenario) (rows : List Row) : Type 0 where
   pub dead_letters : DeadLetters s rows
   pub receipts : Receipts s rows
   pub origins : Origins rows
+  pub ages : Ages s rows
   pub in_time : InTime s rows
 
 -- What is left. The final queues have just the messages that came to a queue and have not left it, queue by queue in the

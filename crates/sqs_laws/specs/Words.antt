@@ -15,6 +15,10 @@ use Rattle.sqs_message.specs.declared.row.RowKind.TheVariants as kinds
 use Rattle.sqs_model.specs.Accounts.{is_deleted, is_expired, origin_in, same_id}
 
 -- kinds of rows
+abbrev pub is_send : RowKind → Bool
+is_send kinds.Send = true
+is_send _ = false
+
 abbrev pub is_receive : RowKind → Bool
 is_receive kinds.Receive = true
 is_receive _ = false
@@ -123,6 +127,10 @@ has_left m rows = list_any (λ r. leaves r && names m r) rows
 -- the origin that the row tells by which a message came
 abbrev pub origin_of : MessageId → List Row → Option Origin
 origin_of m rows = fold (λ o r. if comes r && names m r then origin_in r (Some m) else o) None rows
+
+-- when a message was sent to its queue, if a row tells it
+abbrev pub sent_at : MessageId → List Row → Option ℕ
+sent_at m rows = fold (λ t r. if (is_send r.kind && comes r) && names m r then Some r.key.at else t) None rows
 
 -- the receive or change by which a message is in flight, if it is
 abbrev pub flight : MessageId → List Row → Option Row
