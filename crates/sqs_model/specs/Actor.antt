@@ -41,7 +41,7 @@ pub data LastAct : Type 0 where
 
 -- an actor: the messages that it holds and has not served; those that it served and will delete when all of their
 -- receive are served; those whose timeouts it will change since a service failed; when the service ends, or before it the
--- time to gather messages; whether that service will fail, if it was decided when the service began; its numbers of wakes,
+-- time to gather messages; whether that service will fail, if that was decided when it began; its numbers of wakes,
 -- waiting polls and transfers; its draws
 pub record Actor : Type 0 where
   pub number : ℕ
@@ -147,8 +147,8 @@ fails c gs by_chance = by_chance || list_any (λ g. is_poison c.fails_on g.body)
 abbrev pub is_in : Stretch → ℕ → Bool
 is_in s now = nat_le s.from now && nat_lt now s.to
 
--- of a thousand services that are decided at a moment, how many fail: as the first outage says that it is in, else as at
--- any other
+-- of a thousand services that are decided at a moment, how many fail: as the first outage says that it is in, else as
+-- at any other
 abbrev pub failing_at : List Outage → ℕ → ℕ → ℕ
 failing_at [] otherwise now = otherwise
 failing_at (o ∷ os) otherwise now = if is_in o.stretch now then o.permille else failing_at os otherwise now
@@ -161,15 +161,15 @@ failure_after c gots (by_chance, draws) = (fails c (at_stake c.serving c.whole g
 abbrev pub drawn_failure : ConsumerSettings → ℕ → List Got → Draws → Bool × Draws
 drawn_failure c now gots draws = failure_after c gots (drawn_chance (failing_at c.outages c.fail_permille now) draws)
 
--- a consumer that begins a service of which it is decided whether it fails; a failed one takes a time of its own
+-- a consumer that begins a service of which it is decided whether it fails; a failed one takes another time
 abbrev pub begins_decided : Actor → ConsumerSettings → ℕ → ℕ → ℕ → Bool × Draws → Actor
-begins_decided a c now time failed (will_fail, draws) =
-    in_service (record a { ends = now + (if will_fail then failed else time); will_fail = will_fail; draws = draws }) c now
+begins_decided a c now time other (failed, draws) =
+    in_service (record a { ends = now + (if failed then other else time); will_fail = failed; draws = draws }) c now
 
 -- one whose service takes this time, or another if it fails; without another it is decided at the end whether it fails
 abbrev pub begins_by : Option ℕ → Actor → ConsumerSettings → ℕ → ℕ × Draws → Actor
 begins_by None a c now (time, draws) = in_service (record a { ends = now + time; draws = draws }) c now
-begins_by (Some failed) a c now (time, draws) = begins_decided a c now time failed (drawn_failure c now a.held draws)
+begins_by (Some other) a c now (time, draws) = begins_decided a c now time other (drawn_failure c now a.held draws)
 
 -- a consumer that begins a service, whose time was drawn
 abbrev pub begins : Actor → ConsumerSettings → ℕ → ℕ × Draws → Actor
@@ -264,7 +264,7 @@ ends_service a c now g false = ends_well c.whole a c now g a.held
 -- whether the service that ends fails: as decided when it began, or else decided now
 abbrev pub outcome : Option ℕ → Actor → ConsumerSettings → ℕ → Bool × Draws
 outcome None a c now = drawn_failure c now a.held a.draws
-outcome (Some failed) a c now = (a.will_fail, a.draws)
+outcome (Some other) a c now = (a.will_fail, a.draws)
 
 -- the end of the service of the first message held, by its outcome
 abbrev pub ends_by : Actor → ConsumerSettings → ℕ → Got → Bool × Draws → Act × Actor
@@ -346,7 +346,8 @@ begins_batch a c now gots =
 
 -- what it does with others that it got for those that it holds
 abbrev pub adds_to_batch : List Got → Actor → ConsumerSettings → ℕ → List Got → Act × Actor
-adds_to_batch held a c now gots = (acts.Nothing, gathers_on (record a { held = held ++ gots }) c now (rest_after c.idle gots))
+adds_to_batch held a c now gots =
+    (acts.Nothing, gathers_on (record a { held = held ++ gots }) c now (rest_after c.idle gots))
 
 -- a consumer that got messages, of which it holds none or some, serves or gathers more; without any it rests
 abbrev pub got_more : List Got → Actor → ConsumerSettings → ℕ → List Got → Act × Actor
