@@ -176,7 +176,7 @@ begins_service messages c now a = begins a c now (drawn_service messages c a.dra
 
 -- a consumer that begins a service of so much time, or of another if it is decided now that it fails
 abbrev pub begins_or_fails : ℕ → ℕ → ConsumerSettings → ℕ → Actor → Actor
-begins_or_fails time failed c now a = begins_decided a c now time failed (drawn_failure c now a.held a.draws)
+begins_or_fails time other c now a = begins_decided a c now time other (drawn_failure c now a.held a.draws)
 
 -- a consumer that begins to serve what it holds
 abbrev pub serves_batch : ConsumerSettings → ℕ → Actor → Act × Actor

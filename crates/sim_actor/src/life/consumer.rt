@@ -45,11 +45,11 @@ fn service_time(draws: &mut Draws, consumer: &ConsumerSettings, messages: u64) -
     }
 }
 
-// How long a service takes by whether it fails: so much time, or another if it fails.
-fn time_by(will_fail: bool, time: u64, failed: u64) -> u64
-    ensures { result ≡ (if will_fail then failed else time) }
+// How long a service takes: so much time, or another if it fails.
+fn time_by(failed: bool, time: u64, other: u64) -> u64
+    ensures { result ≡ (if failed then other else time) }
 {
-    if will_fail { failed } else { time }
+    if failed { other } else { time }
 }
 
 // Whether a service goes on, of a consumer that has a heartbeat.
@@ -102,21 +102,21 @@ impl Life {
         consumer: &ConsumerSettings,
         now: u64,
         time: u64,
-        failed: u64,
+        other: u64,
     ) -> Result<(), Refusal>
         requires moment { now ≤ most_count }
         requires time { time ≤ most_count }
-        requires failed { failed ≤ most_count }
+        requires other { other ≤ most_count }
         requires consumer { IsConsumer consumer.now }
         ensures life { Lived self.old self.new (λ a b. Becomes result b
-            (begins_or_fails time failed consumer.now now a)) }
+            (begins_or_fails time other consumer.now now a)) }
         ensures framed { self.new.number ≡ self.old.number }
     {
         if self.draws.taken() == MOST_COUNT {
             return Err(Refusal::CountLimit);
         }
         self.will_fail = self.draw_failure(consumer, now);
-        self.ends = now + time_by(self.will_fail, time, failed);
+        self.ends = now + time_by(self.will_fail, time, other);
         self.in_service(consumer, now);
         Ok(())
     }
@@ -139,8 +139,8 @@ impl Life {
             return Err(Refusal::CountLimit);
         }
         let time = service_time(&mut self.draws, consumer, messages);
-        if let Some(failed) = consumer.fail_service {
-            return self.begin_decided(consumer, now, time, failed);
+        if let Some(other) = consumer.fail_service {
+            return self.begin_decided(consumer, now, time, other);
         }
         self.ends = now + time;
         self.in_service(consumer, now);
