@@ -788,7 +788,8 @@ fn serve_in_outages(
     rt: &impl Abort,
     alloc: Global,
     moment: u32,
-    (otherwise, fail_service): (u64, Option<u64>),
+    otherwise: u64,
+    fail_service: Option<u64>,
     wanted: &'static str,
 )
     requires failures { otherwise ≤ 1000 }
@@ -833,7 +834,7 @@ fn the_first_outage_that_has_a_moment_says_how_many_fail(rt: HostRuntime) {
         (299, 0, "serve r-2-4-1 true"),
         (300, 0, "serve r-2-4-1 false"),
     ] {
-        serve_in_outages(&rt, rt.alloc(), moment, (otherwise, None), wanted);
+        serve_in_outages(&rt, rt.alloc(), moment, otherwise, None, wanted);
     }
 }
 
@@ -847,7 +848,7 @@ fn an_outage_has_a_service_that_is_decided_when_it_begins(rt: HostRuntime) {
         (300, 0, "serve r-2-4-1 true"),
         (301, 0, "serve r-2-4-1 false"),
     ] {
-        serve_in_outages(&rt, rt.alloc(), moment, (otherwise, Some(1)), wanted);
+        serve_in_outages(&rt, rt.alloc(), moment, otherwise, Some(1), wanted);
     }
 }
 
