@@ -1,5 +1,5 @@
 -- What an actor always keeps, and how a decision that may return an error agrees with the definitions.
-use Rattle.std.specs.Prelude.{Err, List, None, Ok, Option, Result, Some, [], length, max, ℕ, ◌<◌, ◌≡◌, ◌≤◌, ◌∷◌, Bool, ◌+◌, ◌++◌}
+use Rattle.std.specs.Prelude.{Err, List, None, Ok, Option, Result, Some, [], length, max, ℕ, ◌<◌, ◌≡◌, ◌≤◌, ◌∷◌, Bool, ◌+◌}
 use Rattle.sim_actor.specs.declared.life.LastAct.{LastAct as OwnStage}
 use Rattle.sim_actor.specs.declared.life.LastAct.TheVariants as own
 use Rattle.sim_actor.specs.declared.replies.FollowUp.{FollowUp}
@@ -20,9 +20,9 @@ use Rattle.sqs_model.specs.declared.agents.ActorSettings.{ActorSettings}
 use Rattle.sqs_model.specs.declared.agents.Role.{Role}
 use Rattle.sqs_model.specs.declared.agents.Role.TheVariants.{Consumer, Producer, Script}
 use Rattle.sqs_model.specs.declared.agents.Serving.{Serving}
-use Rattle.sqs_model.specs.Actor.{Actor, Asked, Beat, Ended, Failed, Gathered, Served, LastAct, act_of, at_stake, begins, ends_drawn, ends_well, ends_whole, failing_at, fails, first_at, gathers_on, next_beat, rest_after, service_of, wakes_after}
+use Rattle.sqs_model.specs.Actor.{Actor, Asked, Beat, Ended, Failed, Gathered, Served, LastAct, act_of, begins, begins_decided, begins_first, drawn_failure, ends_by, ends_service, ends_well, ends_whole, first_at, next_beat, outcome, service_of, wakes_after}
 use Rattle.sqs_model.specs.Answers.{most_count}
-use Rattle.sqs_model.specs.Draw.{Draws, drawn_chance, drawn_time}
+use Rattle.sqs_model.specs.Draw.{Draws, drawn_time}
 use Rattle.sqs_model.specs.Valid.{IsConsumer, IsProducer}
 use Rattle.sqs_redrive.specs.declared.answers.Got.{Got}
 use Rattle.sqs_model.specs.declared.agents.ConsumerSettings.{ConsumerSettings}
@@ -50,6 +50,7 @@ pub record Life : Type 0 where
   pub done : List Got
   pub failed : List Got
   pub ends : ℕ
+  pub will_fail : Bool
   pub last_act : LastAct
   pub wake : Option ℕ
   pub wakes : ℕ
@@ -67,6 +68,7 @@ lived settings l =
       done = l.done;
       failed = l.failed;
       ends = l.ends;
+      will_fail = l.will_fail;
       last_act = l.last_act;
       wake = l.wake;
       wakes = l.wakes;
@@ -172,25 +174,13 @@ drawn_service messages c draws = service_of c.serving messages (drawn_time c.ser
 abbrev pub begins_service : ℕ → ConsumerSettings → ℕ → Actor → Actor
 begins_service messages c now a = begins a c now (drawn_service messages c a.draws)
 
--- the definitions' answer whether a service fails, of a consumer that holds these messages, of which this is the first
-abbrev pub IsFailure : ConsumerSettings → Got → List Got → Bool → Bool → Type 0
-IsFailure c first held by_chance result =
-    (others : List Got) → held ≡ first ∷ others → result ≡ fails c (at_stake c.serving c.whole first others) by_chance
+-- a consumer that begins a service of so much time, or of another if it is decided now that it fails
+abbrev pub begins_or_fails : ℕ → ℕ → ConsumerSettings → ℕ → Actor → Actor
+begins_or_fails time other c now a = begins_decided a c now time other (drawn_failure c now a.held a.draws)
 
--- a consumer that got the first messages of a batch, and may gather others from now on
-abbrev pub first_gathered : List Got → ConsumerSettings → ℕ → Actor → Actor
-first_gathered gots c now a = record a { held = gots; done = []; failed = []; ends = now + c.gather }
-
--- one that got others for it
-abbrev pub more_gathered : List Got → Actor → Actor
-more_gathered gots a = record a { held = a.held ++ gots }
-
--- what a consumer does with the first messages of a batch, and with others that it got for it
-abbrev pub begins_batch : List Got → ConsumerSettings → ℕ → Actor → Act × Actor
-begins_batch gots c now a = (acts.Nothing, gathers_on (first_gathered gots c now a) c now 0)
-
-abbrev pub adds_to_batch : List Got → ConsumerSettings → ℕ → Actor → Act × Actor
-adds_to_batch gots c now a = (acts.Nothing, gathers_on (more_gathered gots a) c now (rest_after c.idle gots))
+-- a consumer that begins to serve what it holds
+abbrev pub serves_batch : ConsumerSettings → ℕ → Actor → Act × Actor
+serves_batch c now a = (acts.Nothing, begins_first (record a { last_act = Ended }) c now)
 
 -- an actor that wakes after a time that is drawn
 abbrev pub wakes_by : Distribution → ℕ → Actor → Actor
@@ -204,9 +194,13 @@ ends_held whole c now a g = ends_well whole a c now g a.held
 abbrev pub ends_all : Serving → ConsumerSettings → ℕ → Actor → Got → Act × Actor
 ends_all serving c now a g = ends_whole serving a c now g a.held
 
--- the end of its service, which may fail by chance
-abbrev pub ends_by_chance : ConsumerSettings → ℕ → Actor → Got → Act × Actor
-ends_by_chance c now a g = ends_drawn a c now g (drawn_chance (failing_at c.outages c.fail_permille now) a.draws)
+-- the end of its service, which failed or not
+abbrev pub ends_as : Bool → ConsumerSettings → ℕ → Actor → Got → Act × Actor
+ends_as failed c now a g = ends_service a c now g failed
+
+-- the end of its service, which may fail
+abbrev pub ends_or_fails : ConsumerSettings → ℕ → Actor → Got → Act × Actor
+ends_or_fails c now a g = ends_by a c now g (outcome c.fail_service (record a { held = g ∷ a.held }) c now)
 
 -- the end of the service of a message, wherever its actor is at home
 abbrev pub EndsAnywhere : MessageId → Receipt → Act → Life → Life → (Actor → Got → Act × Actor) → Type 0

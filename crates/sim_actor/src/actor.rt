@@ -61,6 +61,7 @@ impl Actor {
                 number,
                 holding: Holding::new(alloc),
                 ends: 0,
+                will_fail: false,
                 last_act: LastAct::Asked,
                 wake,
                 wakes: 0,

@@ -45,6 +45,8 @@ pub struct Life {
     pub(crate) holding: Holding,
     // When the service ends, or before it the time to gather messages.
     pub(crate) ends: u64,
+    // Whether that service will fail, if it was decided when the service began.
+    pub(crate) will_fail: bool,
     pub(crate) last_act: LastAct,
     pub(crate) wake: Option<u64>,
     pub(crate) wakes: u64,
@@ -62,7 +64,7 @@ impl Model for Life {
 
     ghost Value = { Life };
 
-    ghost view = { λ l. record { number = l.number; held = l.holding.held; done = l.holding.done; failed = l.holding.failed; ends = l.ends; last_act = last_act_of l.last_act; wake = l.wake; wakes = l.wakes; polls = l.polls; sent = l.sent; draws = l.draws } };
+    ghost view = { λ l. record { number = l.number; held = l.holding.held; done = l.holding.done; failed = l.holding.failed; ends = l.ends; will_fail = l.will_fail; last_act = last_act_of l.last_act; wake = l.wake; wakes = l.wakes; polls = l.polls; sent = l.sent; draws = l.draws } };
 
     ghost invariant = { λ l. (l.wakes ≤ most_count) × (l.polls ≤ most_count) × (l.sent ≤ most_count) × (l.draws.taken ≤ most_count) };
 }

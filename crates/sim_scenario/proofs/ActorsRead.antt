@@ -26,7 +26,7 @@ use Rattle.sqs_model.specs.declared.agents.Role.{Role}
 use Rattle.sqs_model.specs.declared.agents.Role.TheVariants.{Consumer, Producer, Script}
 use Rattle.sqs_model.specs.declared.agents.Serving.{Serving}
 use Rattle.sqs_model.specs.Longest.{longest_delay, longest_timeout}
-use Rattle.sqs_model.specs.Valid.{IsDistribution, IsOutage, IsServing, MayBeForward, MayBeGroups, MayBeHeartbeat, MayBeMoment, MayBeTimeout}
+use Rattle.sqs_model.specs.Valid.{IsDistribution, IsOutage, IsServing, MayBeFailService, MayBeForward, MayBeGroups, MayBeHeartbeat, MayBeMoment, MayBeTimeout}
 use Rattle.sqs_formats.specs.Lists.{integers}
 use Rattle.sim_script.specs.Ranges.{IsCallAt, IsScriptOf}
 use Rattle.sim_scenario.specs.AtHome.{IsSendingAt, MayDelay}
@@ -179,7 +179,8 @@ consumer_reads o home t r e =
     let timeout = parts _ _ _ wait.2 in
     let service = parts _ _ _ timeout.2 in
     let serving = parts _ _ _ service.2 in
-    let failures = parts _ _ _ serving.2 in
+    let fail_service = parts _ _ _ serving.2 in
+    let failures = parts _ _ _ fail_service.2 in
     let idle = parts _ _ _ failures.2 in
     let forward = parts _ _ _ idle.2 in
     let stop = parts _ _ _ forward.2 in
@@ -196,6 +197,7 @@ consumer_reads o home t r e =
         timeout = maybe_within MayBeTimeout longest_timeout t (codes "timeout_s") timeout.0 tt (λ n h. h) timeout.1;
         service = service_reads t service.0 service.1;
         serving = serving_reads t serving.0 serving.1;
+        fail_service = maybe_within MayBeFailService 43200000 t (codes "fail_service_ms") fail_service.0 tt (λ n h. h) fail_service.1;
         failures = (optional_within 0 1000 0 t (codes "fail_permille") failures.0 (lit≤ tt, lit≤ tt) failures.1).1;
         idle = optional_within 1 86400000 1000 t (codes "idle_ms") idle.0 (lit≤ tt, lit≤ tt) idle.1;
         forward = onward.1;

@@ -1,6 +1,6 @@
 //! A consumer of a scenario's text.
 ghost use Rattle.std.specs.Prelude.{◌≡◌, map};
-ghost use Rattle.sqs_formats.specs.Actors.{all_consumer_keys, consuming, failing, forward as the_forward, forward_keys, jitter_keys, newer_consumer_keys, service_keys, serving as the_serving, serving_keys};
+ghost use Rattle.sqs_formats.specs.Actors.{all_consumer_keys, consuming, fail_service_keys, failing, forward as the_forward, forward_keys, jitter_keys, newer_consumer_keys, service_keys, serving as the_serving, serving_keys};
 ghost use Rattle.sqs_formats.specs.Keys.{only};
 ghost use Rattle.sim_scenario.specs.Gives.{Gives};
 ghost use Rattle.sim_scenario.specs.Sections.{table_of};
@@ -79,6 +79,18 @@ fn serving_keys(version: u64, says_serving: bool) -> &'static [&'static str]
     }
 }
 
+/// The key of the time of failed services, by whether a batch is served at once and whether it fails
+/// as a whole.
+fn fail_service_keys(version: u64, once: bool, whole: bool) -> &'static [&'static str]
+    ensures { map (λ k. k.now) result.now ≡ fail_service_keys version once whole }
+{
+    if version >= 3 && (whole || !once) {
+        &["fail_service_ms"]
+    } else {
+        &[]
+    }
+}
+
 /// The key that a consumer with a backoff has, too.
 fn jitter_keys(has_backoff: bool) -> &'static [&'static str]
     ensures { map (λ k. k.now) result.now ≡ jitter_keys has_backoff }
@@ -99,6 +111,8 @@ fn known_consumer_keys(version: u64, section: &Section<'_>) -> Result<(), ReadEr
     let forward = forward_keys(version, section.has("forward"));
     let newer = newer_consumer_keys(version);
     let serving = serving_keys(version, section.has_newer(version, "batch_service"));
+    let once = section.says("batch_service", "once");
+    let fail_service = fail_service_keys(version, once, section.says("batch_fails", "whole"));
     let has_list = section.has_newer(version, "fails_between_ms");
     let outages = outage_keys(has_list, section.has_newer(version, "fails_from_ms"));
     let jitter = jitter_keys(section.has_newer(version, "backoff_s"));
@@ -109,6 +123,7 @@ fn known_consumer_keys(version: u64, section: &Section<'_>) -> Result<(), ReadEr
         forward,
         newer,
         serving,
+        fail_service,
         outages,
         jitter,
     ])
@@ -210,6 +225,7 @@ pub(crate) fn consumer(
     let timeout = section.maybe("timeout_s", &Integer(0, 43_200))?;
     let service = time("service", "service_min_ms", "service_max_ms", section)?;
     let serving = serving(section)?;
+    let fail_service = section.maybe("fail_service_ms", &Integer(0, 43_200_000))?;
     let fail_permille = section.optional("fail_permille", &Integer(0, 1000), 0)?;
     let idle = section.optional("idle_ms", &Integer(1, 86_400_000), 1000)?;
     let forward = forward(section.has("forward"), outline, home, section)?;
@@ -223,6 +239,7 @@ pub(crate) fn consumer(
         timeout,
         service,
         serving,
+        fail_service,
         fail_permille,
         idle,
         forward,

@@ -9,7 +9,7 @@ ghost use Rattle.sim_scenario.specs.Naming.{all_names as the_all_names, names_be
 use crate::copies::{copies_before, copies_within, push_names_taken, total_beside};
 use crate::names::is_fifo;
 use crate::roster::Roster;
-use crate::section::member;
+use crate::section::{member, text_when};
 use sqs_formats::{Home, HomeTask, HomeTasks};
 use sqs_message::Text;
 use std::alloc::{AllocError, Global};
@@ -55,13 +55,7 @@ pub(crate) fn text_in<'a>(item: &'a Value, key: &str) -> &'a str
 {
     match item.as_table() {
         None => "",
-        Some(table) => match member(table, key) {
-            None => "",
-            Some(value) => match value.as_str() {
-                None => "",
-                Some(text) => text,
-            },
-        },
+        Some(table) => text_when(member(table, key)),
     }
 }
 

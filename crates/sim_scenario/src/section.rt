@@ -4,7 +4,7 @@ ghost use Rattle.std.specs.List.{list_any};
 ghost use Rattle.std.specs.Str.{bytes_eq};
 ghost use Rattle.toml.specs.Data.{as_table, get_member};
 ghost use Rattle.toml.specs.View.{table_view, view};
-ghost use Rattle.sqs_formats.specs.Keys.{bounds, fault_at, has, has_newer, item_place, item_table, list as a_list, maybe, only, optional, place_of, required, text as a_text};
+ghost use Rattle.sqs_formats.specs.Keys.{bounds, fault_at, has, has_newer, item_place, item_table, list as a_list, maybe, only, optional, place_of, required, says, text as a_text, text_when};
 ghost use Rattle.sim_scenario.specs.Gives.{Gives, Names, table as the_table};
 ghost use Rattle.sim_scenario.specs.Sections.{table_of};
 
@@ -34,6 +34,19 @@ pub(crate) fn member<'a>(table: &'a Table, key: &str) -> Option<&'a Value>
     ensures { option_map (λ v. view v.now) result ≡ get_member key.now (table_view table.now) }
 {
     table.get(key)
+}
+
+/// The text that a value is, or none.
+pub(crate) fn text_when(value: Option<&Value>) -> &str
+    ensures { result.now ≡ text_when (option_map (λ v. view v.now) value.entry) }
+{
+    match value {
+        None => "",
+        Some(value) => match value.as_str() {
+            None => "",
+            Some(text) => text,
+        },
+    }
 }
 
 /// Whether the list has a key.
@@ -123,6 +136,13 @@ impl<'a> Section<'a> {
         ensures { result ≡ has_newer version (table_of self.now) key.now }
     {
         version >= 3 && self.has(key)
+    }
+
+    /// Whether the value at a key is this word.
+    pub(crate) fn says(&self, key: &str, word: &str) -> bool
+        ensures { result ≡ says (table_of self.now) key.now word.now }
+    {
+        text_when(member(self.table, key)) == word
     }
 
     /// Checks that the table has none but the keys in these lists.

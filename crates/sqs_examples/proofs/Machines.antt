@@ -59,6 +59,7 @@ consumer home start to =
             timeout = None;
             service = Uniform 14 14;
             serving = Each;
+            fail_service = None;
             fail_permille = 0;
             idle = 86400000;
             forward = Some (record { to = to; latency = record { least = 10; greatest = 10 } });
@@ -196,6 +197,7 @@ relay home start wait to =
             timeout = None;
             service = Uniform 100 100;
             serving = Each;
+            fail_service = None;
             fail_permille = 0;
             idle = 86400000;
             forward = Some (record { to = to; latency = record { least = 10; greatest = 10 } });

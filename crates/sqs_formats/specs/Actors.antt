@@ -22,7 +22,7 @@ use Rattle.sqs_model.specs.declared.agents.Role.TheVariants.{Script, Producer, C
 use Rattle.sqs_model.specs.declared.agents.Serving.{Serving}
 use Rattle.sqs_model.specs.declared.agents.Serving.TheVariants.{Each, Once}
 use Rattle.sqs_formats.specs.Reading.{needs, ◌>>=◌}
-use Rattle.sqs_formats.specs.Keys.{Says, Table, KeyType, fault_at, place_of, has, has_newer, only, text, sized_text, boolean, integer, seconds, one_of, required, optional, maybe}
+use Rattle.sqs_formats.specs.Keys.{Says, Table, KeyType, fault_at, place_of, has, has_newer, only, says, text, sized_text, boolean, integer, seconds, one_of, required, optional, maybe}
 use Rattle.sqs_formats.specs.Lists.{integers}
 use Rattle.sqs_formats.specs.Distributions.{time, time_keys}
 use Rattle.sqs_formats.specs.Groups.{groups, groups_key}
@@ -208,6 +208,18 @@ abbrev pub serving_keys : ℕ → Bool → List (List ℕ)
 serving_keys version true = codes "service_each_ms" ∷ []
 serving_keys version false = if nat_le 3 version then codes "heartbeat_s" ∷ [] else []
 
+-- whether a batch is served at once, and whether it fails as a whole
+abbrev pub is_once : Table → Bool
+is_once t = says t (codes "batch_service") (codes "once")
+
+abbrev pub is_whole : Table → Bool
+is_whole t = says t (codes "batch_fails") (codes "whole")
+
+-- failed services may take a time of their own, but not those of a batch served at once whose messages fail each
+abbrev pub fail_service_keys : ℕ → Bool → Bool → List (List ℕ)
+fail_service_keys version true false = []
+fail_service_keys version once whole = if nat_le 3 version then codes "fail_service_ms" ∷ [] else []
+
 -- a jitter goes with its backoff
 abbrev pub jitter_keys : Bool → List (List ℕ)
 jitter_keys true = codes "backoff_jitter" ∷ []
@@ -217,8 +229,9 @@ jitter_keys false = []
 abbrev pub following_keys : ℕ → Table → List (List ℕ)
 following_keys version t =
     serving_keys version (has_newer version t (codes "batch_service"))
+    ++ (fail_service_keys version (is_once t) (is_whole t)
     ++ (outage_keys (has_newer version t (codes "fails_between_ms")) (has_newer version t (codes "fails_from_ms"))
-    ++ jitter_keys (has_newer version t (codes "backoff_s")))
+    ++ jitter_keys (has_newer version t (codes "backoff_s"))))
 
 -- all keys of a consumer
 abbrev pub all_consumer_keys : ℕ → Table → List (List ℕ)
@@ -275,6 +288,7 @@ consuming o home t = do
   timeout ← maybe (integer 0 43200) t (codes "timeout_s")
   service ← service t
   serving ← serving t
+  fail_service ← maybe (integer 0 43200000) t (codes "fail_service_ms")
   fail_permille ← optional 0 (integer 0 1000) t (codes "fail_permille")
   idle ← optional 1000 (integer 1 86400000) t (codes "idle_ms")
   forward ← forward (has t (codes "forward")) o home t
@@ -288,6 +302,7 @@ consuming o home t = do
     timeout = timeout;
     service = service;
     serving = serving;
+    fail_service = fail_service;
     fail_permille = fail_permille;
     idle = idle;
     forward = forward;

@@ -172,6 +172,10 @@ abbrev pub text_when : Option Data → List ℕ
 text_when None = []
 text_when (Some d) = text_or_none (as_str d)
 
+-- whether the value at a key is this word
+abbrev pub says : Table → List ℕ → List ℕ → Bool
+says t key word = bytes_eq (text_when (at t key)) word
+
 -- the keys of a table, or none
 abbrev pub members_or_none : Option Members → Members
 members_or_none None = no_members

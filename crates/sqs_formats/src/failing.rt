@@ -5,7 +5,7 @@ use sqs_model::Outage;
 /// Which services of a consumer fail, and what follows.
 #[derive(Drop)]
 pub struct Failing {
-    /// When services that end fail with another chance.
+    /// When services that are decided fail with another chance.
     pub outages: Listed<Outage>,
     /// The text that makes a service fail if the message's body contains it.
     pub fails_on: Option<Text>,

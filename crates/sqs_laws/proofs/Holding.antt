@@ -1,5 +1,5 @@
 -- An actor holds only messages that it was told of, and serves no other.
-use Rattle.std.specs.Prelude.{Bool, List, None, Option, Some, [], drop, false, nat_lt, true, ℕ, ◌+◌, ◌++◌, ◌<◌, ◌∷◌, ◌≡◌, ◌≤◌}
+use Rattle.std.specs.Prelude.{Bool, List, None, Option, Some, [], drop, false, length, min, nat_le, nat_lt, true, ℕ, ◌+◌, ◌++◌, ◌<◌, ◌∷◌, ◌≡◌, ◌≤◌}
 use Rattle.std.proofs.Common.{arith, refl}
 use Rattle.sqs_message.specs.declared.calls.Call.{Call}
 use Rattle.sqs_message.specs.declared.calls.Call.TheVariants as calls
@@ -16,8 +16,8 @@ use Rattle.sqs_model.specs.declared.agents.Role.{Role}
 use Rattle.sqs_model.specs.declared.agents.Role.TheVariants.{Consumer, Producer, Script}
 use Rattle.sqs_model.specs.declared.agents.Serving.{Serving}
 use Rattle.sqs_model.specs.declared.agents.Serving.TheVariants.{Each, Once}
-use Rattle.sqs_model.specs.Actor.{Actor, Asked, Beat, Ended, Failed, Gathered, LastAct, Served, act_of, after_failure, at_stake, begins_next, consumer_told, consumer_wake, ends_drawn, ends_service, ends_well, ends_whole, failing_at, fails, gathers_on, goes_on, got_more, is_gathered, is_gathering, woken, has_come, has_failed, next, next_as, producer_sent, producer_wake, rest_after, rests, script_wake, served_all, serves, serves_on, serving, settles}
-use Rattle.sqs_model.specs.Draw.{Draws, drawn_chance}
+use Rattle.sqs_model.specs.Actor.{Actor, Asked, Beat, Ended, Failed, Gathered, LastAct, Served, act_of, after_failure, begins_by, begins_next, consumer_told, consumer_wake, ends_by, ends_service, ends_well, ends_whole, gathers_on, goes_on, got_more, is_gathered, is_gathering, woken, has_come, has_failed, next, next_as, outcome, producer_sent, producer_wake, rest_after, rests, script_wake, served_all, serves, serves_on, service_of, serving, settles}
+use Rattle.sqs_model.specs.Draw.{Draws, drawn_time}
 use Rattle.sqs_model.proofs.Branches.{either}
 use Rattle.sqs_laws.proofs.Giving.{AreKnown, IsKnown}
 
@@ -101,8 +101,8 @@ module _ (site arrivals : ℕ) where
     ends_acts a c g true h k = record { informed = failure_informed c.backoff c.whole c a g refl h k; serves = (k.here, k.old) }
     ends_acts a c g false h k = well_acts c.whole a c g a.held h k h.held
 
-    drawn_acts : (a : Actor) (c : ConsumerSettings) (g : Got) (x : Bool × Draws) → IsInformed a → IsKnown site arrivals g → Acts (ends_drawn a c now g x)
-    drawn_acts a c g (by_chance, draws) h k = ends_acts (record a { draws = draws }) c g (fails c (at_stake c.serving c.whole g a.held) by_chance) (with_lists _ h.held h.done h.failed) k
+    outcome_acts : (a : Actor) (c : ConsumerSettings) (g : Got) (outcome : Bool × Draws) → IsInformed a → IsKnown site arrivals g → Acts (ends_by a c now g outcome)
+    outcome_acts a c g (failed, draws) h k = ends_acts (record a { draws = draws }) c g failed (with_lists _ h.held h.done h.failed) k
 
     rests_acts : (a : Actor) (c : ConsumerSettings) (failed done : List Got) → IsInformed a → AreKnown site arrivals failed → AreKnown site arrivals done → Acts (rests a c now failed done)
     rests_acts a c (g ∷ gs) done h f d = record { informed = with_lists _ h.held h.done f.1; serves = tt }
@@ -112,11 +112,16 @@ module _ (site arrivals : ℕ) where
     serves_on_acts : (a : Actor) (c : ConsumerSettings) (g : Got) (gs : List Got) → IsInformed a → AreKnown site arrivals (g ∷ gs) → Acts (serves_on a c now g gs)
     serves_on_acts a c g gs h k =
         either Acts (goes_on c.heartbeat a.ends now) _ _ (record { informed = with_lists _ h.held h.done h.failed; serves = tt })
-        (drawn_acts (record a { held = gs }) c g (drawn_chance (failing_at c.outages c.fail_permille now) a.draws) (with_lists _ k.1 h.done h.failed) k.0)
+        (outcome_acts (record a { held = gs }) c g (outcome c.fail_service (record a { held = g ∷ gs }) c now) (with_lists _ k.1 h.done h.failed) k.0)
+
+    begins_acts : (failed : Option ℕ) (a : Actor) (c : ConsumerSettings) (drawn : ℕ × Draws) → IsInformed a → Acts (acts.Nothing, begins_by failed a c now drawn)
+    begins_acts None a c (time, draws) h = record { informed = with_lists _ h.held h.done h.failed; serves = tt }
+    begins_acts (Some failed) a c (time, draws) h = record { informed = with_lists _ h.held h.done h.failed; serves = tt }
 
     gathers_acts : (a : Actor) (c : ConsumerSettings) (after : ℕ) → IsInformed a → Acts (acts.Nothing, gathers_on a c now after)
     gathers_acts a c after h =
-        either (λ (b : Actor). Acts (acts.Nothing, b)) (is_gathered a c now after) _ _ (record { informed = with_lists _ h.held h.done h.failed; serves = tt })
+        either (λ (b : Actor). Acts (acts.Nothing, b)) (is_gathered a c now after) _ _
+        (begins_acts c.fail_service (record a { last_act = Ended }) c (service_of c.serving (length a.held) (drawn_time c.service a.draws)) (with_lists _ h.held h.done h.failed))
         (record { informed = with_lists _ h.held h.done h.failed; serves = tt })
 
     wake_acts : (a : Actor) (c : ConsumerSettings) (gs : List Got) → IsInformed a → AreKnown site arrivals gs → Acts (consumer_wake a c now gs)
@@ -124,7 +129,7 @@ module _ (site arrivals : ℕ) where
     wake_acts a c (g ∷ gs) h k = either Acts (is_gathering a.last_act) _ _ (record { informed = h; serves = tt }) (serves_on_acts a c g gs h k)
 
     next_one_acts : (s : Serving) (a : Actor) (c : ConsumerSettings) (gs : List Got) → IsInformed a → AreKnown site arrivals gs → Acts (acts.Nothing, begins_next s (record a { held = gs }) c now)
-    next_one_acts Each a c gs h k = record { informed = with_lists _ k h.done h.failed; serves = tt }
+    next_one_acts Each a c gs h k = begins_acts c.fail_service (record a { held = gs }) c (drawn_time c.service a.draws) (with_lists _ k h.done h.failed)
     next_one_acts (Once each) a c gs h k = record { informed = with_lists _ k h.done h.failed; serves = tt }
 
     serving_acts : (a : Actor) (c : ConsumerSettings) (gs : List Got) → IsInformed a → AreKnown site arrivals gs → Acts (acts.Nothing, serving a c now gs)

@@ -1,5 +1,5 @@
 -- What an actor does next leaves it sound, makes it wake later or as before, and sends only what arrives later.
-use Rattle.std.specs.Prelude.{List, None, Option, Some, [], drop, length, max, min, nat_lt, suc, zero, ℕ, ◌++◌, ◌+◌, ◌<◌, ◌∷◌, ◌≡◌, ◌≤◌, ◌⊎◌}
+use Rattle.std.specs.Prelude.{Bool, List, None, Option, Some, [], drop, if◌then◌else◌, length, max, min, nat_lt, suc, zero, ℕ, ◌++◌, ◌+◌, ◌<◌, ◌∷◌, ◌≡◌, ◌≤◌, ◌⊎◌}
 use Rattle.std.proofs.Common.{add-one, ap, arith, inl, inr, refl, subst, sym, ◌∙◌}
 use Rattle.sqs_message.specs.declared.calls.ScriptCall.{ScriptCall}
 use Rattle.sqs_model.specs.declared.acts.Act.{Act}
@@ -16,7 +16,7 @@ use Rattle.sqs_model.specs.declared.agents.Serving.{Serving}
 use Rattle.sqs_model.specs.declared.agents.Serving.TheVariants.{Each, Once}
 use Rattle.sqs_redrive.specs.declared.answers.Got.{Got}
 use Rattle.sqs_redrive.specs.declared.transfers.Outbound.{Outbound}
-use Rattle.sqs_model.specs.Actor.{Actor, Asked, Beat, Ended, Failed, Gathered, Served, LastAct, asks_again, begins_first, begins_next, consumer_told, consumer_wake, first_at, gathers_on, got_more, has_come, has_failed, idle, in_service, is_gathered, next, next_as, next_beat, producer_sent, producer_wake, rest_after, script_wake, service_of, serving, wakes_after, woken}
+use Rattle.sqs_model.specs.Actor.{Actor, Asked, Beat, Ended, Failed, Gathered, Served, LastAct, asks_again, begins_by, begins_first, begins_next, consumer_told, consumer_wake, drawn_failure, first_at, gathers_on, got_more, has_come, has_failed, idle, in_service, is_gathered, next, next_as, next_beat, producer_sent, producer_wake, rest_after, script_wake, service_of, serving, wakes_after, woken}
 use Rattle.sqs_model.specs.Draw.{Draws, drawn_time}
 use Rattle.sqs_model.specs.Progress.{Ascends, IsSoundActor, IsSoundDistribution, IsSoundForward, IsSoundRole, WakesFor}
 use Rattle.sqs_model.proofs.Counts.{ascends_lower}
@@ -155,10 +155,16 @@ module _ (now : ℕ) (w : Weight now) where
       let past : w.of (wake_key (max (now + 1) (next_beat c.heartbeat now b.ends)) b) ≡ 0 = w.past (wake_key (max (now + 1) (next_beat c.heartbeat now b.ends)) b) (omega arith) in
       record { number = n; settings = s; wakes = tt; wake = omega arith; sends = tt }
 
+  begins_steps :
+      (failed : Option ℕ) (c : ConsumerSettings) (a b : Actor) (drawn : ℕ × Draws) → b.number ≡ a.number → b.settings ≡ a.settings
+      → Steps now w 0 (Consumer c) a (acts.Nothing, begins_by failed b c now drawn)
+  begins_steps None c a b (time, draws) n s = in_service_steps c a (record b { ends = now + time; draws = draws }) n s
+  begins_steps (Some failed) c a b (time, draws) n s =
+      let decided : Bool × Draws = drawn_failure c now b.held draws in
+      in_service_steps c a (record b { ends = now + (if decided.0 then failed else time); will_fail = decided.0; draws = decided.1 }) n s
+
   next_one_steps : (s : Serving) (c : ConsumerSettings) (a : Actor) (gs : List Got) → Steps now w 0 (Consumer c) a (acts.Nothing, begins_next s (record a { held = gs }) c now)
-  next_one_steps Each c a gs =
-      let drawn : ℕ × Draws = drawn_time c.service a.draws in
-      in_service_steps c a (record a { held = gs; ends = now + drawn.0; draws = drawn.1 }) refl refl
+  next_one_steps Each c a gs = begins_steps c.fail_service c a (record a { held = gs }) (drawn_time c.service a.draws) refl refl
   next_one_steps (Once each) c a gs = in_service_steps c a (record a { held = gs; ends = now }) refl refl
 
   serving_steps : (c : ConsumerSettings) (a : Actor) (gs : List Got) → Steps now w 0 (Consumer c) a (acts.Nothing, serving a c now gs)
@@ -169,9 +175,7 @@ module _ (now : ℕ) (w : Weight now) where
   idle_steps c a h = record { number = refl; settings = refl; wakes = tt; wake = late_wake (actor_weight w a) c.idle a h; sends = tt }
 
   first_steps : (c : ConsumerSettings) (a b : Actor) → b.number ≡ a.number → b.settings ≡ a.settings → Steps now w 0 (Consumer c) a (acts.Nothing, begins_first b c now)
-  first_steps c a b n s =
-      let drawn : ℕ × Draws = service_of c.serving (length b.held) (drawn_time c.service b.draws) in
-      in_service_steps c a (record b { ends = now + drawn.0; draws = drawn.1 }) n s
+  first_steps c a b n s = begins_steps c.fail_service c a b (service_of c.serving (length b.held) (drawn_time c.service b.draws)) n s
 
   gathers_steps : (c : ConsumerSettings) (a b : Actor) (after : ℕ) → b.number ≡ a.number → b.settings ≡ a.settings → Steps now w 0 (Consumer c) a (acts.Nothing, gathers_on b c now after)
   gathers_steps c a b after n s =

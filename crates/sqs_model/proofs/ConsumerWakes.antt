@@ -10,10 +10,10 @@ use Rattle.sqs_model.specs.declared.agents.Serving.{Serving}
 use Rattle.sqs_model.specs.declared.agents.Serving.TheVariants.{Each, Once}
 use Rattle.sqs_redrive.specs.declared.answers.Got.{Got}
 use Rattle.sqs_redrive.specs.declared.transfers.Outbound.{Outbound}
-use Rattle.sqs_model.specs.Actor.{Actor, Asked, Beat, Ended, Failed, LastAct, Served, after_failure, at_stake, backoff_at, backoff_drawn, consumer_wake, ends_drawn, ends_service, ends_well, ends_whole, failing_at, fails, goes_on, has_come, is_gathering, rests, served_all, serves, serves_on, settles}
-use Rattle.sqs_model.specs.Draw.{Draws, drawn_chance, drawn_latency}
+use Rattle.sqs_model.specs.Actor.{Actor, Asked, Beat, Ended, Failed, LastAct, Served, after_failure, backoff_at, backoff_drawn, consumer_wake, ends_by, ends_service, ends_well, ends_whole, goes_on, has_come, is_gathering, outcome, rests, served_all, serves, serves_on, settles}
+use Rattle.sqs_model.specs.Draw.{Draws, drawn_latency}
 use Rattle.sqs_model.proofs.Branches.{either}
-use Rattle.sqs_model.proofs.Effects.{backoff_words, latency_least, latency_words}
+use Rattle.sqs_model.proofs.Effects.{backoff_words, latency_least, latency_words, outcome_words}
 use Rattle.sqs_model.proofs.Sending.{IsForward, Sends}
 
 -- an actor that keeps its number, its settings, its wake and its counts but for transfers and words, which are no fewer
@@ -119,10 +119,8 @@ module _ (now : ℕ) (b : Actor) where
     ends_woke d g true s = record { stays = failed_stays c.backoff c.whole d g refl s; act = tt }
     ends_woke d g false s = well_woke c.whole d g d.held s
 
-    drawn_woke : (d : Actor) (g : Got) → Stays b d → Wakes (ends_drawn d c now g (drawn_chance (failing_at c.outages c.fail_permille now) d.draws))
-    drawn_woke d g s =
-        let drawn : Bool × Draws = drawn_chance (failing_at c.outages c.fail_permille now) d.draws in
-        ends_woke (record d { draws = drawn.1 }) g (fails c (at_stake c.serving c.whole g d.held) drawn.0) (drawn_stays d drawn.1 (omega arith) s)
+    outcome_woke : (d : Actor) (g : Got) (outcome : Bool × Draws) → d.draws.taken ≤ outcome.1.taken → Stays b d → Wakes (ends_by d c now g outcome)
+    outcome_woke d g (failed, draws) more s = ends_woke (record d { draws = draws }) g failed (drawn_stays d draws more s)
 
     rests_woke : (d : Actor) (failed done : List Got) → Stays b d → Wakes (rests d c now failed done)
     rests_woke d (g ∷ gs) done s =
@@ -138,7 +136,8 @@ module _ (now : ℕ) (b : Actor) where
     serves_on_woke d g gs s =
         either Wakes (goes_on c.heartbeat d.ends now) _ _
         (record { stays = held_stays d d.held d.done d.failed d.ends Beat s; act = tt })
-        (drawn_woke (record d { held = gs }) g (held_stays d gs d.done d.failed d.ends d.last_act s))
+        (outcome_woke (record d { held = gs }) g (outcome c.fail_service (record d { held = g ∷ gs }) c now)
+        (outcome_words c.fail_service (record d { held = g ∷ gs }) c now) (held_stays d gs d.done d.failed d.ends d.last_act s))
 
     woke_from : (d : Actor) (gs : List Got) → Stays b d → Wakes (consumer_wake d c now gs)
     woke_from d [] s = rests_woke d d.failed d.done s

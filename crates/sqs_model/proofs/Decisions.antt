@@ -15,8 +15,8 @@ use Rattle.sqs_model.specs.declared.agents.Role.{Role}
 use Rattle.sqs_model.specs.declared.agents.Role.TheVariants.{Consumer, Producer, Script}
 use Rattle.sqs_model.specs.declared.agents.Serving.{Serving}
 use Rattle.sqs_model.specs.declared.agents.Serving.TheVariants.{Each, Once}
-use Rattle.sqs_model.specs.Actor.{Actor, Asked, Beat, Ended, Failed, Gathered, Served, LastAct, backoff_at, begins_next, consumer_told, consumer_wake, gathers_on, got_more, has_come, has_failed, is_gathered, next, next_as, rest_after, producer_sent, producer_wake, script_wake, serving, wakes_after, woken}
-use Rattle.sqs_model.specs.Draw.{drawn_time}
+use Rattle.sqs_model.specs.Actor.{Actor, Asked, Beat, Ended, Failed, Gathered, Served, LastAct, backoff_at, begins_by, begins_next, consumer_told, consumer_wake, gathers_on, got_more, has_come, has_failed, is_gathered, next, next_as, rest_after, producer_sent, producer_wake, script_wake, service_of, serving, wakes_after, woken}
+use Rattle.sqs_model.specs.Draw.{Draws, drawn_time}
 use Rattle.sqs_model.proofs.Branches.{either}
 use Rattle.sqs_model.proofs.ConsumerWakes.{IsForwardBy, MayForwardBy, consumer_woke, service_sends}
 use Rattle.sqs_model.proofs.Effects.{backoff_words, group_words, service_words, time_words}
@@ -76,8 +76,15 @@ module _ (now : ℕ) (a : Actor) where
           sends = service_sends now (woken a) c.wait (MayForwardBy now a c.forward) tt c.forward _ same_forward x.act;
         }
 
+    begins_decides :
+        (failed : Option ℕ) (b : Actor) (drawn : ℕ × Draws) → b.number ≡ a.number → b.settings ≡ a.settings → b.polls ≡ a.polls → a.wakes ≤ b.wakes → b.sent ≡ a.sent → a.draws.taken ≤ drawn.1.taken
+        → Decides now a c.forward (acts.Nothing, begins_by failed b c now drawn)
+    begins_decides None b (time, draws) n s p w t d = rests c.forward _ n s p w t d _ tt
+    begins_decides (Some failed) b (time, draws) n s p w t d = rests c.forward _ n s p w t (omega (arith, d)) _ tt
+
     next_one_decides : (s : Serving) (gs : List Got) → Decides now a c.forward (acts.Nothing, begins_next s (record a { held = gs }) c now)
-    next_one_decides Each gs = rests c.forward _ refl refl refl (omega arith) refl (omega (arith, time_words c.service a.draws)) _ tt
+    next_one_decides Each gs =
+        begins_decides c.fail_service (record a { held = gs }) (drawn_time c.service a.draws) refl refl refl (omega arith) refl (omega (arith, time_words c.service a.draws))
     next_one_decides (Once each) gs = rests c.forward _ refl refl refl (omega arith) refl (omega arith) _ tt
 
     serving_decides : (gs : List Got) → Decides now a c.forward (acts.Nothing, serving a c now gs)
@@ -87,7 +94,8 @@ module _ (now : ℕ) (a : Actor) where
     gathers_decides : (held done failed : List Got) (ends after : ℕ) → Decides now a c.forward (acts.Nothing, gathers_on (record a { held = held; done = done; failed = failed; ends = ends }) c now after)
     gathers_decides held done failed ends after =
         either (λ b. Decides now a c.forward (acts.Nothing, b)) (is_gathered (record a { held = held; done = done; failed = failed; ends = ends }) c now after) _ _
-        (rests c.forward _ refl refl refl (omega arith) refl (omega (arith, service_words c.serving (length held) c.service a.draws)) _ tt)
+        (begins_decides c.fail_service (record a { held = held; done = done; failed = failed; ends = ends; last_act = Ended }) (service_of c.serving (length held) (drawn_time c.service a.draws)) refl refl refl
+        (omega arith) refl (omega (arith, service_words c.serving (length held) c.service a.draws)))
         (rests c.forward _ refl refl refl (omega arith) refl (omega arith) _ tt)
 
     got_decides : (held gs : List Got) → Decides now a c.forward (got_more held a c now gs)

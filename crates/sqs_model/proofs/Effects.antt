@@ -9,6 +9,7 @@ use Rattle.sqs_redrive.specs.declared.settings.Latency.{Latency}
 use Rattle.sqs_redrive.specs.declared.settings.Policy.{Policy}
 use Rattle.sqs_redrive.specs.declared.transfers.Load.{Load}
 use Rattle.sqs_redrive.specs.declared.transfers.Outbound.{Outbound}
+use Rattle.sqs_model.specs.declared.agents.ConsumerSettings.{ConsumerSettings}
 use Rattle.sqs_model.specs.declared.agents.Distribution.{Distribution}
 use Rattle.sqs_model.specs.declared.agents.Distribution.TheVariants.{Quantiles, Uniform}
 use Rattle.sqs_model.specs.declared.agents.Groups.{Groups}
@@ -16,7 +17,7 @@ use Rattle.sqs_model.specs.declared.agents.Groups.TheVariants.{ByWeight, InTurn}
 use Rattle.sqs_model.specs.declared.agents.Quantile.{Quantile}
 use Rattle.sqs_model.specs.declared.agents.Serving.{Serving}
 use Rattle.sqs_model.specs.declared.agents.Serving.TheVariants.{Each, Once}
-use Rattle.sqs_model.specs.Actor.{Actor, backoff_drawn, group_of, service_of}
+use Rattle.sqs_model.specs.Actor.{Actor, backoff_drawn, group_of, outcome, service_of}
 use Rattle.sqs_model.specs.Acts.{came_back, redrive_by}
 use Rattle.sqs_model.specs.Draw.{Draws, drawn_latency, drawn_time, drawn_uniform, next_word, time_at, time_between}
 use Rattle.sqs_model.specs.Progress.{IsSound, IsSoundActor, IsSoundDistribution, IsSoundPolicy, TakesTime}
@@ -61,6 +62,11 @@ time_words (Quantiles qs) d = refl
 pub service_words : (s : Serving) (messages : ℕ) (x : Distribution) (d : Draws) → (service_of s messages (drawn_time x d)).1.taken ≡ d.taken + 1
 service_words Each messages x d = time_words x d
 service_words (Once each) messages x d = time_words x d
+
+-- whether a service that ends fails takes a word if it was not decided when it began
+pub outcome_words : (failed : Option ℕ) (a : Actor) (c : ConsumerSettings) (now : ℕ) → a.draws.taken ≤ (outcome failed a c now).1.taken
+outcome_words None a c now = omega arith
+outcome_words (Some failed) a c now = omega arith
 
 -- a timeout that is drawn takes a word, one that is not takes none
 pub backoff_words : (jitter : Bool) (greatest : ℕ) (d : Draws) → d.taken ≤ (backoff_drawn jitter greatest d).1.taken

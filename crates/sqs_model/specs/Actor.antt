@@ -41,7 +41,8 @@ pub data LastAct : Type 0 where
 
 -- an actor: the messages that it holds and has not served; those that it served and will delete when all of their
 -- receive are served; those whose timeouts it will change since a service failed; when the service ends, or before it the
--- time to gather messages; its numbers of wakes, waiting polls and transfers; its draws
+-- time to gather messages; whether that service will fail, if that was decided when it began; its numbers of wakes,
+-- waiting polls and transfers; its draws
 pub record Actor : Type 0 where
   pub number : ℕ
   pub settings : ActorSettings
@@ -49,6 +50,7 @@ pub record Actor : Type 0 where
   pub done : List Got
   pub failed : List Got
   pub ends : ℕ
+  pub will_fail : Bool
   pub last_act : LastAct
   pub wake : Option ℕ
   pub wakes : ℕ
@@ -126,9 +128,52 @@ next_beat (Some every) now ends = min ends (now + every)
 abbrev pub in_service : Actor → ConsumerSettings → ℕ → Actor
 in_service a c now = record a { wake = Some (max (now + 1) (next_beat c.heartbeat now a.ends)) }
 
+-- whether a message is one that a consumer fails to serve
+abbrev pub is_poison : Option (List ℕ) → List ℕ → Bool
+is_poison None body = false
+is_poison (Some part) body = contains part body
+
+-- of some messages held, those that fail together: the first, or all if they are served at once and end as a whole
+abbrev pub at_stake : Serving → Bool → List Got → List Got
+at_stake Each whole gots = take 1 gots
+at_stake (Once each) false gots = take 1 gots
+at_stake (Once each) true gots = gots
+
+-- whether a service of some messages fails: by chance, or by one of them
+abbrev pub fails : ConsumerSettings → List Got → Bool → Bool
+fails c gs by_chance = by_chance || list_any (λ g. is_poison c.fails_on g.body) gs
+
+-- whether a moment is in a stretch of time, whose end is not in it
+abbrev pub is_in : Stretch → ℕ → Bool
+is_in s now = nat_le s.from now && nat_lt now s.to
+
+-- of a thousand services that are decided at a moment, how many fail: as the first outage says that it is in, else as
+-- at any other
+abbrev pub failing_at : List Outage → ℕ → ℕ → ℕ
+failing_at [] otherwise now = otherwise
+failing_at (o ∷ os) otherwise now = if is_in o.stretch now then o.permille else failing_at os otherwise now
+
+-- whether a service fails, of a consumer that holds these messages, after a draw
+abbrev pub failure_after : ConsumerSettings → List Got → Bool × Draws → Bool × Draws
+failure_after c gots (by_chance, draws) = (fails c (at_stake c.serving c.whole gots) by_chance, draws)
+
+-- whether it fails, decided at a moment
+abbrev pub drawn_failure : ConsumerSettings → ℕ → List Got → Draws → Bool × Draws
+drawn_failure c now gots draws = failure_after c gots (drawn_chance (failing_at c.outages c.fail_permille now) draws)
+
+-- a consumer that begins a service of which it is decided whether it fails; a failed one takes another time
+abbrev pub begins_decided : Actor → ConsumerSettings → ℕ → ℕ → ℕ → Bool × Draws → Actor
+begins_decided a c now time other (failed, draws) =
+    in_service (record a { ends = now + (if failed then other else time); will_fail = failed; draws = draws }) c now
+
+-- one whose service takes this time, or another if it fails; without another it is decided at the end whether it fails
+abbrev pub begins_by : Option ℕ → Actor → ConsumerSettings → ℕ → ℕ × Draws → Actor
+begins_by None a c now (time, draws) = in_service (record a { ends = now + time; draws = draws }) c now
+begins_by (Some other) a c now (time, draws) = begins_decided a c now time other (drawn_failure c now a.held draws)
+
 -- a consumer that begins a service, whose time was drawn
 abbrev pub begins : Actor → ConsumerSettings → ℕ → ℕ × Draws → Actor
-begins a c now (time, draws) = in_service (record a { ends = now + time; draws = draws }) c now
+begins a c now drawn = begins_by c.fail_service a c now drawn
 
 -- one that goes on with the next message of a receive: its service begins, or it was served with those before it
 abbrev pub begins_next : Serving → Actor → ConsumerSettings → ℕ → Actor
@@ -167,20 +212,6 @@ forwards a now g to (latency, draws) =
 abbrev pub serves : Actor → ℕ → Got → Option Forwarding → Act × Actor
 serves a now g None = (acts.Serve g.id g.receipt false None, a)
 serves a now g (Some f) = forwards a now g f.to (drawn_latency f.latency a.draws)
-
--- whether a message is one that a consumer fails to serve
-abbrev pub is_poison : Option (List ℕ) → List ℕ → Bool
-is_poison None body = false
-is_poison (Some part) body = contains part body
-
--- whether a moment is in a stretch of time, whose end is not in it
-abbrev pub is_in : Stretch → ℕ → Bool
-is_in s now = nat_le s.from now && nat_lt now s.to
-
--- of a thousand services that end at a moment, how many fail: as the first outage says that it is in, else as at any other
-abbrev pub failing_at : List Outage → ℕ → ℕ → ℕ
-failing_at [] otherwise now = otherwise
-failing_at (o ∷ os) otherwise now = if is_in o.stretch now then o.permille else failing_at os otherwise now
 
 -- a consumer that does nothing more of a failed service; if its receives fail as a whole, it lets all of this one go
 abbrev pub lets_go : Bool → Actor → Actor
@@ -230,20 +261,14 @@ abbrev pub ends_service : Actor → ConsumerSettings → ℕ → Got → Bool �
 ends_service a c now g true = fails_service a c g
 ends_service a c now g false = ends_well c.whole a c now g a.held
 
--- the messages that fail together: the first of those held, or all if they are served at once and end as a whole
-abbrev pub at_stake : Serving → Bool → Got → List Got → List Got
-at_stake Each whole g gs = g ∷ []
-at_stake (Once each) false g gs = g ∷ []
-at_stake (Once each) true g gs = g ∷ gs
+-- whether the service that ends fails: as decided when it began, or else decided now
+abbrev pub outcome : Option ℕ → Actor → ConsumerSettings → ℕ → Bool × Draws
+outcome None a c now = drawn_failure c now a.held a.draws
+outcome (Some other) a c now = (a.will_fail, a.draws)
 
--- whether a service of some messages fails: by chance, or by one of them
-abbrev pub fails : ConsumerSettings → List Got → Bool → Bool
-fails c gs by_chance = by_chance || list_any (λ g. is_poison c.fails_on g.body) gs
-
--- the end of the service of the first message held, after a draw
-abbrev pub ends_drawn : Actor → ConsumerSettings → ℕ → Got → Bool × Draws → Act × Actor
-ends_drawn a c now g (by_chance, draws) =
-    ends_service (record a { draws = draws }) c now g (fails c (at_stake c.serving c.whole g a.held) by_chance)
+-- the end of the service of the first message held, by its outcome
+abbrev pub ends_by : Actor → ConsumerSettings → ℕ → Got → Bool × Draws → Act × Actor
+ends_by a c now g (failed, draws) = ends_service (record a { draws = draws }) c now g failed
 
 -- whether a service goes on, of a consumer that has a heartbeat
 abbrev pub goes_on : Option ℕ → ℕ → ℕ → Bool
@@ -279,7 +304,7 @@ rests a c now [] [] =
 abbrev pub serves_on : Actor → ConsumerSettings → ℕ → Got → List Got → Act × Actor
 serves_on a c now g gs =
     if goes_on c.heartbeat a.ends now then (acts.Prolong (receipt_text g.receipt) c.timeout, record a { last_act = Beat })
-    else ends_drawn (record a { held = gs }) c now g (drawn_chance (failing_at c.outages c.fail_permille now) a.draws)
+    else ends_by (record a { held = gs }) c now g (outcome c.fail_service (record a { held = g ∷ gs }) c now)
 
 -- when a consumer that gathers messages would ask again, after a while: no later than at the end of its time to gather
 abbrev pub asks_again : Actor → ℕ → ℕ → ℕ
@@ -314,12 +339,21 @@ abbrev pub rest_after : ℕ → List Got → ℕ
 rest_after idle [] = idle
 rest_after idle (g ∷ gs) = 0
 
+-- what a consumer does with the first messages of a batch, for which it may gather others from now on
+abbrev pub begins_batch : Actor → ConsumerSettings → ℕ → List Got → Act × Actor
+begins_batch a c now gots =
+    (acts.Nothing, gathers_on (record a { held = gots; done = []; failed = []; ends = now + c.gather }) c now 0)
+
+-- what it does with others that it got for those that it holds
+abbrev pub adds_to_batch : List Got → Actor → ConsumerSettings → ℕ → List Got → Act × Actor
+adds_to_batch held a c now gots =
+    (acts.Nothing, gathers_on (record a { held = held ++ gots }) c now (rest_after c.idle gots))
+
 -- a consumer that got messages, of which it holds none or some, serves or gathers more; without any it rests
 abbrev pub got_more : List Got → Actor → ConsumerSettings → ℕ → List Got → Act × Actor
 got_more [] a c now [] = idle a c now
-got_more [] a c now (g ∷ gs) =
-    (acts.Nothing, gathers_on (record a { held = g ∷ gs; done = []; failed = []; ends = now + c.gather }) c now 0)
-got_more (h ∷ hs) a c now gs = (acts.Nothing, gathers_on (record a { held = h ∷ hs ++ gs }) c now (rest_after c.idle gs))
+got_more [] a c now (g ∷ gs) = begins_batch a c now (g ∷ gs)
+got_more (h ∷ hs) a c now gs = adds_to_batch (h ∷ hs) a c now gs
 
 abbrev pub consumer_got : Actor → ConsumerSettings → ℕ → List Got → Act × Actor
 consumer_got a c now gots = got_more a.held a c now gots

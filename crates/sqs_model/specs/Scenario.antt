@@ -51,6 +51,7 @@ opening_actor seed (n, settings) =
       done = [];
       failed = [];
       ends = 0;
+      will_fail = false;
       last_act = Asked;
       wake = first_wake settings.role;
       wakes = 0;

@@ -141,6 +141,11 @@ abbrev pub IsServing : Serving → Type 0
 IsServing Each = Unit {0}
 IsServing (Once each) = each ≤ 86400000
 
+-- a time of failed services of at most 12 hours, if they have one
+abbrev pub MayBeFailService : Option ℕ → Type 0
+MayBeFailService None = Unit {0}
+MayBeFailService (Some time) = time ≤ 43200000
+
 -- an outage that ends within 30 days, in which 0 to 1,000 services in a thousand fail
 pub record IsOutage (o : Outage) : Type 0 where
   pub ordered : o.stretch.from ≤ o.stretch.to
@@ -156,6 +161,7 @@ pub record IsConsumer (c : ConsumerSettings) : Type 0 where
   pub timeout : MayBeTimeout c.timeout
   pub service : IsDistribution c.service
   pub serving : IsServing c.serving
+  pub fail_service : MayBeFailService c.fail_service
   pub failures : c.fail_permille ≤ 1000
   pub idle : Between 1 86400000 c.idle
   pub forward : MayBeForward c.forward

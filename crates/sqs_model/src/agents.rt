@@ -108,6 +108,9 @@ pub struct ConsumerSettings {
     /// The time of a service.
     pub service: Distribution,
     pub serving: Serving,
+    /// How long a service takes that fails, if that is another time. It is then decided when a
+    /// service begins whether it fails, and else when it ends.
+    pub fail_service: Option<u64>,
     /// The number of services in a thousand that fail, but during an outage.
     pub fail_permille: u64,
     /// How long it waits after it got nothing.
@@ -117,7 +120,7 @@ pub struct ConsumerSettings {
     pub stop: Option<u64>,
     /// The text that makes a service fail if the message's body contains it.
     pub fails_on: Option<Text>,
-    /// When services that end fail with another chance. The first of them that has a moment counts.
+    /// When services that are decided fail with another chance. The first that has a moment counts.
     pub outages: Listed<Outage>,
     /// Whether a failed service fails all messages of its receive.
     pub whole: bool,

@@ -1,14 +1,14 @@
 //! What a consumer does.
-ghost use Rattle.std.specs.Prelude.{◌≡◌, ◌≤◌, ◌+◌, [], All, Ok, Some, false, max};
+ghost use Rattle.std.specs.Prelude.{◌≡◌, ◌<◌, ◌≤◌, ◌+◌, [], All, Ok, Some, false, if◌then◌else◌, max};
 ghost use Rattle.sqs_message.specs.Ids.{receipt_text};
 ghost use Rattle.sqs_model.specs.declared.agents.ActorSettings.{ActorSettings};
 ghost use Rattle.sqs_model.specs.declared.agents.Serving.TheVariants.{Each};
-ghost use Rattle.sqs_model.specs.Actor.{woken, idle as the_idle, serving as the_serving, serves as the_serves, settles as the_settles, fails_service as the_fails_service, backs_off as the_backs_off, backoff_at as the_backoff_at, goes_on as the_goes_on, has_failed as the_has_failed, rests as the_rests, consumer_wake as the_consumer_wake, consumer_got as the_consumer_got, consumer_told as the_consumer_told};
+ghost use Rattle.sqs_model.specs.Actor.{woken, idle as the_idle, serving as the_serving, serves as the_serves, settles as the_settles, fails_service as the_fails_service, backs_off as the_backs_off, backoff_at as the_backoff_at, goes_on as the_goes_on, drawn_failure, has_failed as the_has_failed, rests as the_rests, consumer_wake as the_consumer_wake, consumer_got as the_consumer_got, consumer_told as the_consumer_told};
 ghost use Rattle.sqs_model.specs.Answers.{most_count};
 ghost use Rattle.sqs_model.specs.Longest.{longest_timeout};
 ghost use Rattle.sqs_model.specs.Valid.{IsConsumer, IsLatency, MayBeForward};
 ghost use Rattle.sqs_redrive.specs.Received.{most_received};
-ghost use Rattle.sim_actor.specs.Lives.{Becomes, Changes, Decides, DecidesAt, DoesNothing, EndsFirst, EndsThis, FollowsUp, Lived, lived, EndsAnywhere, begins_service, drawn_service, ends_all, ends_by_chance, ends_held, in_service, Lives};
+ghost use Rattle.sim_actor.specs.Lives.{Becomes, Changes, Decides, DecidesAt, DoesNothing, EndsFirst, EndsThis, FollowsUp, Lived, lived, EndsAnywhere, begins_or_fails, begins_service, drawn_service, ends_all, ends_as, ends_held, ends_or_fails, in_service, Lives};
 
 use super::failing::{failing, fails};
 use super::gathering::is_gathering;
@@ -45,6 +45,13 @@ fn service_time(draws: &mut Draws, consumer: &ConsumerSettings, messages: u64) -
     }
 }
 
+// How long a service takes: so much time, or another if it fails.
+fn time_by(failed: bool, time: u64, other: u64) -> u64
+    ensures { result ≡ (if failed then other else time) }
+{
+    if failed { other } else { time }
+}
+
 // Whether a service goes on, of a consumer that has a heartbeat.
 fn goes_on(heartbeat: Option<u64>, ends: u64, now: u64) -> bool
     ensures { result ≡ the_goes_on heartbeat ends now }
@@ -77,6 +84,43 @@ impl Life {
         self.wake = Some(beat.max(now + 1));
     }
 
+    // Draws whether a service of the messages that it holds fails.
+    fn draw_failure(&mut self, consumer: &ConsumerSettings, now: u64) -> bool
+        requires words { self.old.draws.taken < most_count }
+        ensures decision { drawn_failure consumer.now now self.old.held self.old.draws
+            ≡ (result, self.new.draws) }
+        ensures framed { self.new ≡ record self.old { draws = self.new.draws } }
+    {
+        let by_chance = self.draws.chance(failing(consumer, now));
+        fails(consumer, &self.holding, by_chance)
+    }
+
+    // Begins a service that takes so much time, or another if it fails. It is decided now whether it
+    // will fail.
+    fn begin_decided(
+        &mut self,
+        consumer: &ConsumerSettings,
+        now: u64,
+        time: u64,
+        other: u64,
+    ) -> Result<(), Refusal>
+        requires moment { now ≤ most_count }
+        requires time { time ≤ most_count }
+        requires other { other ≤ most_count }
+        requires consumer { IsConsumer consumer.now }
+        ensures life { Lived self.old self.new (λ a b. Becomes result b
+            (begins_or_fails time other consumer.now now a)) }
+        ensures framed { self.new.number ≡ self.old.number }
+    {
+        if self.draws.taken() == MOST_COUNT {
+            return Err(Refusal::CountLimit);
+        }
+        self.will_fail = self.draw_failure(consumer, now);
+        self.ends = now + time_by(self.will_fail, time, other);
+        self.in_service(consumer, now);
+        Ok(())
+    }
+
     // Begins a service of so many messages.
     pub(crate) fn begin(
         &mut self,
@@ -94,7 +138,11 @@ impl Life {
         if self.draws.taken() == MOST_COUNT {
             return Err(Refusal::CountLimit);
         }
-        self.ends = now + service_time(&mut self.draws, consumer, messages);
+        let time = service_time(&mut self.draws, consumer, messages);
+        if let Some(other) = consumer.fail_service {
+            return self.begin_decided(consumer, now, time, other);
+        }
+        self.ends = now + time;
         self.in_service(consumer, now);
         Ok(())
     }
@@ -325,28 +373,25 @@ impl Life {
         self.forward_held(consumer, home, now)
     }
 
-    // Ends the service of the first message that it holds.
-    fn end_service(
+    // Ends the service of the first message that it holds, which failed or not.
+    fn end_as(
         &mut self,
         consumer: &ConsumerSettings,
         home: u32,
         now: u64,
+        failed: bool,
     ) -> Result<Act, Refusal>
         requires moment { now ≤ most_count }
         requires consumer { IsConsumer consumer.now }
         ensures decision { EndsFirst home result self.old self.new
-            (ends_by_chance consumer.now now) }
+            (ends_as failed consumer.now now) }
         ensures framed { self.new.number ≡ self.old.number }
     {
-        if self.draws.taken() == MOST_COUNT {
-            return Err(Refusal::CountLimit);
-        }
-        let by_chance = self.draws.chance(failing(consumer, now));
         let Some(got) = self.holding.first() else {
             return Ok(Act::Nothing);
         };
         let (id, receipt) = (got.id, got.receipt);
-        if fails(consumer, got, &self.holding, by_chance) {
+        if failed {
             return Ok(self.fail_service(consumer, id, receipt));
         }
         match (consumer.whole, consumer.serving) {
@@ -357,6 +402,30 @@ impl Life {
                 Some(got) => self.settle(consumer, home, now, got),
             },
         }
+    }
+
+    // Ends the service of the first message that it holds. Whether it fails was decided when it
+    // began, or else is drawn now.
+    fn end_service(
+        &mut self,
+        consumer: &ConsumerSettings,
+        home: u32,
+        now: u64,
+    ) -> Result<Act, Refusal>
+        requires moment { now ≤ most_count }
+        requires consumer { IsConsumer consumer.now }
+        ensures decision { EndsFirst home result self.old self.new
+            (ends_or_fails consumer.now now) }
+        ensures framed { self.new.number ≡ self.old.number }
+    {
+        if consumer.fail_service.is_some() {
+            return self.end_as(consumer, home, now, self.will_fail);
+        }
+        if self.draws.taken() == MOST_COUNT {
+            return Err(Refusal::CountLimit);
+        }
+        let failed = self.draw_failure(consumer, now);
+        self.end_as(consumer, home, now, failed)
     }
 
     // Asks for messages, until it stops.

@@ -1,30 +1,28 @@
 //! Whether a service fails.
 ghost use Rattle.std.specs.List.{list_any};
-ghost use Rattle.std.specs.Prelude.{◌≡◌, option_map};
-ghost use Rattle.sqs_model.specs.Actor.{failing_at as the_failing_at, is_in as the_is_in, is_poison as the_is_poison};
-ghost use Rattle.sim_actor.specs.Lives.{IsFailure};
+ghost use Rattle.std.specs.Prelude.{◌≡◌, take};
+ghost use Rattle.sqs_message.specs.Bodies.{contains};
+ghost use Rattle.sqs_model.specs.Actor.{at_stake, failing_at as the_failing_at, fails as the_fails, is_in as the_is_in};
 
 use crate::holding::Holding;
-use sqs_message::{Body, Text};
+use sqs_message::Text;
 use sqs_model::{ConsumerSettings, Outage, Serving, Stretch};
-use sqs_redrive::Got;
 
-// Whether a message is one that a consumer fails to serve, by a text that its body contains.
-fn is_poison(part: Option<&Text>, body: &Body) -> bool
-    ensures { result ≡ the_is_poison (option_map (λ t. t.now) part.entry) body.now }
+// Whether the body of one of the messages held contains a text.
+fn any_contains(holding: &Holding, part: &Text) -> bool
+    ensures { result ≡ list_any (λ g. contains part.now g.body) holding.now.held }
 {
-    match part {
-        None => false,
-        Some(part) => body.contains(part.as_bytes()),
-    }
+    holding.held().any(|got| got.body.contains(part.as_bytes()))
 }
 
-// Whether one of the messages held is such a one.
-fn any_is_poison(part: Option<&Text>, holding: &Holding) -> bool
-    ensures { result ≡ list_any
-        (λ g. the_is_poison (option_map (λ t. t.now) part.entry) g.body) holding.now.held }
+// Whether the body of the first message held contains a text.
+fn first_contains(holding: &Holding, part: &Text) -> bool
+    ensures { result ≡ list_any (λ g. contains part.now g.body) (take 1 holding.now.held) }
 {
-    holding.held().any(|got| is_poison(part, &got.body))
+    match holding.first() {
+        None => false,
+        Some(got) => got.body.contains(part.as_bytes()),
+    }
 }
 
 // Whether a moment is in a stretch of time, whose end is not in it.
@@ -34,8 +32,8 @@ fn is_in(stretch: Stretch, now: u64) -> bool
     stretch.from <= now && now < stretch.to
 }
 
-// Of a thousand services that end now, how many fail: as the first outage says that it is in, or
-// else as at any other time.
+// Of a thousand services that are decided now, how many fail: as the first outage says that it is
+// in, or else as at any other time.
 fn failing_at(outages: &[Outage], otherwise: u64, now: u64) -> u64
     ensures { result ≡ the_failing_at outages.now otherwise now }
 {
@@ -45,7 +43,7 @@ fn failing_at(outages: &[Outage], otherwise: u64, now: u64) -> u64
     }
 }
 
-/// Of a thousand services of a consumer that end now, how many fail by chance.
+/// Of a thousand services of a consumer that are decided now, how many fail by chance.
 pub fn failing(consumer: &ConsumerSettings, now: u64) -> u64
     ensures { result ≡ the_failing_at consumer.now.outages consumer.now.fail_permille now }
 {
@@ -54,15 +52,18 @@ pub fn failing(consumer: &ConsumerSettings, now: u64) -> u64
 
 /// Whether a service fails: by chance, by the first of the messages held, or by any of them if all
 /// are served at once and end as a whole.
-pub fn fails(consumer: &ConsumerSettings, first: &Got, holding: &Holding, by_chance: bool) -> bool
-    ensures { IsFailure consumer.now first.now holding.now.held by_chance result }
+pub fn fails(consumer: &ConsumerSettings, holding: &Holding, by_chance: bool) -> bool
+    ensures { result ≡ the_fails consumer.now
+        (at_stake consumer.now.serving consumer.now.whole holding.now.held) by_chance }
 {
     if by_chance {
         return true;
     }
-    let part = consumer.fails_on.as_ref();
+    let Some(part) = &consumer.fails_on else {
+        return false;
+    };
     match (consumer.serving, consumer.whole) {
-        (Serving::Once { .. }, true) => any_is_poison(part, holding),
-        _ => is_poison(part, &first.body),
+        (Serving::Once { .. }, true) => any_contains(holding, part),
+        _ => first_contains(holding, part),
     }
 }

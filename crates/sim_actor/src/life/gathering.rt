@@ -1,10 +1,10 @@
 //! How a consumer gathers messages before it serves them.
 ghost use Rattle.std.specs.Prelude.{◌≡◌, ◌≤◌, ◌||◌, nat_le};
 ghost use Rattle.sqs_model.specs.declared.agents.ActorSettings.{ActorSettings};
-ghost use Rattle.sqs_model.specs.Actor.{asks_again as the_asks_again, asks_for_more as the_asks_for_more, gathers_on, is_gathered as the_is_gathered, is_gathering as the_is_gathering, rest_after as the_rest_after};
+ghost use Rattle.sqs_model.specs.Actor.{adds_to_batch, asks_again as the_asks_again, asks_for_more as the_asks_for_more, begins_batch, gathers_on, is_gathered as the_is_gathered, is_gathering as the_is_gathering, rest_after as the_rest_after};
 ghost use Rattle.sqs_model.specs.Answers.{most_count};
 ghost use Rattle.sqs_model.specs.Valid.{IsConsumer};
-ghost use Rattle.sim_actor.specs.Lives.{DoesNothing, Lives, adds_to_batch, begins_batch, last_act_of, lived};
+ghost use Rattle.sim_actor.specs.Lives.{DoesNothing, Lives, last_act_of, lived, serves_batch};
 
 use super::{LastAct, Life, has_come};
 use crate::holding::Holding;
@@ -86,6 +86,17 @@ impl Life {
             self.last_act = LastAct::Gathered;
             return Ok(());
         }
+        self.serve_batch(consumer, now)
+    }
+
+    // Begins to serve the messages that it holds. Returns `Memory` if they are more than one
+    // service may be of.
+    fn serve_batch(&mut self, consumer: &ConsumerSettings, now: u64) -> Result<(), Refusal>
+        requires moment { now ≤ most_count }
+        requires consumer { IsConsumer consumer.now }
+        ensures decision { Lives DoesNothing result self.old self.new (serves_batch consumer.now now) }
+        ensures framed { self.new.number ≡ self.old.number }
+    {
         let messages = self.holding.held_count() as u64;
         if messages > MOST_SERVED {
             return Err(Refusal::Memory);
@@ -94,7 +105,8 @@ impl Life {
         self.begin(consumer, now, messages)
     }
 
-    // Takes the first messages of a batch, and begins to serve them or gathers more.
+    // Takes the first messages of a batch, and begins to serve them or gathers more. Without a time
+    // to gather it serves them.
     pub(crate) fn gather_first(
         &mut self,
         consumer: &ConsumerSettings,
@@ -104,11 +116,14 @@ impl Life {
         requires moment { now ≤ most_count }
         requires consumer { IsConsumer consumer.now }
         ensures decision { Lives DoesNothing result self.old self.new
-            (begins_batch messages.items consumer.now now) }
+            (λ a. begins_batch a consumer.now now messages.items) }
         ensures framed { self.new.number ≡ self.old.number }
     {
         self.holding = Holding::of(messages);
         self.ends = now + consumer.gather;
+        if consumer.gather == 0 {
+            return self.serve_batch(consumer, now);
+        }
         self.gather(consumer, now, 0)
     }
 
@@ -122,7 +137,7 @@ impl Life {
         requires consumer { IsConsumer consumer.now }
         requires moment { now ≤ most_count }
         ensures decision { Lives DoesNothing result self.old self.new
-            (adds_to_batch messages.items consumer.now now) }
+            (λ a. adds_to_batch a.held a consumer.now now messages.items) }
         ensures framed { self.new.number ≡ self.old.number }
     {
         let after = rest_after(consumer.idle, messages.as_slice());

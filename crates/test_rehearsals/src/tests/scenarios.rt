@@ -68,14 +68,15 @@ fn previewed(alloc: Global, text: &[u8]) -> Option<Scenario> {
     draft.read(alloc, &Scripts::new(Vec::new(alloc))).ok()
 }
 
-// Whether actors are one consumer with this kind of service, these outages, and a backoff that is
-// drawn.
+// Whether actors are one consumer with this kind of service, failed ones of 30 ms, these outages,
+// and a backoff that is drawn.
 fn is_served(actors: &[ActorSettings], serving: Serving, outages: &[Outage]) -> bool {
     match actors {
         [actor] => {
             match &actor.role {
                 Role::Consumer(consumer) => {
                     consumer.serving == serving
+                        && consumer.fail_service == Some(30)
                         && consumer.outages.as_slice() == outages
                         && consumer.jitter
                 }
@@ -89,7 +90,7 @@ fn is_served(actors: &[ActorSettings], serving: Serving, outages: &[Outage]) -> 
 #[test]
 fn consumers_of_version_3_are_as_their_keys_say(rt: HostRuntime) {
     let text =
-        b"version = 3\nhorizon = 90\n[[queue]]\nname = 'q'\n[[actor]]\nname = 'c'\nkind = 'consumer'\nqueue = 'q'\nservice_min_ms = 1\nservice_max_ms = 2\nbatch_service = 'once'\nservice_each_ms = 20\nfails_between_ms = [[10, 20], [5, 5]]\nfails_permille = 900\nbackoff_s = [1]\nbackoff_jitter = 'full'\n".as_slice();
+        b"version = 3\nhorizon = 90\n[[queue]]\nname = 'q'\n[[actor]]\nname = 'c'\nkind = 'consumer'\nqueue = 'q'\nservice_min_ms = 1\nservice_max_ms = 2\nbatch_service = 'once'\nservice_each_ms = 20\nfail_service_ms = 30\nfails_between_ms = [[10, 20], [5, 5]]\nfails_permille = 900\nbatch_fails = 'whole'\nbackoff_s = [1]\nbackoff_jitter = 'full'\n".as_slice();
     let outages = [
         Outage {
             stretch: Stretch { from: 10, to: 20 },

@@ -1,6 +1,6 @@
 //! Lives of actors, step by step: the answers that they get and what they do.
 ghost use Rattle.std.specs.Prelude.{◌≤◌, length};
-ghost use Rattle.sqs_model.specs.Valid.{AreGroups, IsConsumer, IsLatency, MayBeGroups};
+ghost use Rattle.sqs_model.specs.Valid.{AreGroups, IsConsumer, IsLatency, MayBeFailService, MayBeGroups};
 ghost use Rattle.sim_actor.specs.Lives.{IsRole};
 
 use crate::tests::same::same;
@@ -300,6 +300,7 @@ fn consumer(alloc: Global, fail_permille: u64, least: u64, greatest: u64) -> Act
             timeout: Some(30),
             service: Distribution::Uniform(1, 100),
             serving: Serving::Each,
+            fail_service: None,
             fail_permille,
             idle: 1000,
             forward: Some(Forwarding { to: 3, latency }),
@@ -500,6 +501,7 @@ fn failing_consumer(rt: &impl Abort, alloc: Global) -> ActorSettings
             timeout: Some(30),
             service: Distribution::Uniform(1500, 1500),
             serving: Serving::Each,
+            fail_service: None,
             fail_permille: 0,
             idle: 1000,
             forward: None,
@@ -544,6 +546,7 @@ fn plain_consumer(alloc: Global) -> ConsumerSettings
         timeout: Some(30),
         service: Distribution::Uniform(1, 100),
         serving: Serving::Each,
+        fail_service: None,
         fail_permille: 0,
         idle: 1000,
         forward: None,
@@ -694,16 +697,103 @@ fn consumer_that_may_not_ask_again_gathers_no_more(rt: HostRuntime) {
     consume_by(&rt, rt.alloc(), consumer, life, 1);
 }
 
-// Ends a service at a moment, of a consumer with two outages: from 100 to 200 no service fails,
-// from 150 to 300 each one. At any other time `otherwise` of a thousand fail.
+#[test]
+fn a_failed_service_takes_a_time_of_its_own(rt: HostRuntime) {
+    // The words of agent 0 under seed 0 give in turn: a service of 68 ms; 563 of 1,000, no failure;
+    // one of 90 ms; 159, a failure; one of 72 ms; 105, a failure; one of 81 ms; 777, no failure.
+    let mut consumer = plain_consumer(rt.alloc());
+    consumer.fail_service = Some(5000);
+    consumer.fail_permille = 500;
+    let life: &[Step] = &[
+        (7, Told::Wake, "receive 2 5 Some(30)", None),
+        (7, Told::Two, "nothing", Some(75)),
+        (75, Told::Wake, "serve r-2-4-1 false", None),
+        (75, Told::Other, "delete r-2-4-1", None),
+        (75, Told::Other, "nothing", Some(5075)),
+        (5075, Told::Wake, "serve r-2-6-1 true", None),
+        (5075, Told::Other, "nothing", Some(5076)),
+        (5076, Told::Wake, "receive 2 5 Some(30)", None),
+        (5076, Told::Two, "nothing", Some(10076)),
+        (10076, Told::Wake, "serve r-2-4-1 true", None),
+        (10076, Told::Other, "nothing", Some(10157)),
+        (10157, Told::Wake, "serve r-2-6-1 false", None),
+    ];
+    consume_by(&rt, rt.alloc(), consumer, life, 6);
+}
+
+#[test]
+fn heartbeats_go_on_while_a_service_fails(rt: HostRuntime) {
+    // The body of the first message fails, so its service takes 2,500 ms from 7 on. That of the second
+    // does not, and takes 1,500.
+    let mut consumer = plain_consumer(rt.alloc());
+    consumer.service = Distribution::Uniform(1500, 1500);
+    consumer.fail_service = Some(2500);
+    consumer.fails_on = Some(text(&rt, rt.alloc(), "x"));
+    consumer.heartbeat = Some(1000);
+    let life: &[Step] = &[
+        (7, Told::Two, "nothing", Some(1007)),
+        (1007, Told::Wake, "prolong r-2-4-1 Some(30)", None),
+        (1007, Told::Other, "nothing", Some(2007)),
+        (2007, Told::Wake, "prolong r-2-4-1 Some(30)", None),
+        (2007, Told::Other, "nothing", Some(2507)),
+        (2507, Told::Wake, "serve r-2-4-1 true", None),
+        (2507, Told::Other, "nothing", Some(3507)),
+        (3507, Told::Wake, "prolong r-2-6-1 Some(30)", None),
+        (3507, Told::Other, "nothing", Some(4007)),
+        (4007, Told::Wake, "serve r-2-6-1 false", None),
+    ];
+    consume_by(&rt, rt.alloc(), consumer, life, 5);
+}
+
+#[test]
+fn a_whole_batch_that_fails_takes_one_time(rt: HostRuntime) {
+    // The body of the second message fails the batch, so it takes 3 ms in all. The words of agent 0
+    // under seed 0 give in turn: a service of 68 ms; 563 of 1,000, no failure by chance; one of 90 ms;
+    // 159, a failure by chance.
+    let mut consumer = plain_consumer(rt.alloc());
+    consumer.serving = Serving::Once { each: 10 };
+    consumer.whole = true;
+    consumer.fail_service = Some(3);
+    consumer.fail_permille = 500;
+    consumer.fails_on = Some(text(&rt, rt.alloc(), "y"));
+    let life: &[Step] = &[
+        (7, Told::Wake, "receive 2 5 Some(30)", None),
+        (7, Told::Two, "nothing", Some(10)),
+        (10, Told::Wake, "serve r-2-4-1 true", None),
+        (10, Told::Other, "nothing", Some(11)),
+        (11, Told::Wake, "receive 2 5 Some(30)", None),
+        (11, Told::Two, "nothing", Some(14)),
+        (14, Told::Wake, "serve r-2-4-1 true", None),
+    ];
+    consume_by(&rt, rt.alloc(), consumer, life, 4);
+}
+
+#[test]
+fn a_failed_service_of_no_time_takes_a_millisecond(rt: HostRuntime) {
+    let mut consumer = plain_consumer(rt.alloc());
+    consumer.fail_service = Some(0);
+    consumer.fail_permille = 1000;
+    let life: &[Step] = &[
+        (7, Told::Two, "nothing", Some(8)),
+        (8, Told::Wake, "serve r-2-4-1 true", None),
+        (8, Told::Other, "nothing", Some(9)),
+        (9, Told::Wake, "serve r-2-6-1 true", None),
+    ];
+    consume_by(&rt, rt.alloc(), consumer, life, 2);
+}
+
+// Ends a service of 1 ms at a moment, of a consumer with two outages: from 100 to 200 no service
+// fails, from 150 to 300 each one. At any other time `otherwise` of a thousand fail.
 fn serve_in_outages(
     rt: &impl Abort,
     alloc: Global,
     moment: u32,
     otherwise: u64,
+    fail_service: Option<u64>,
     wanted: &'static str,
 )
-    requires { otherwise ≤ 1000 }
+    requires failures { otherwise ≤ 1000 }
+    requires time { MayBeFailService fail_service }
 {
     let (first, second) = (
         Stretch { from: 100, to: 200 },
@@ -723,6 +813,7 @@ fn serve_in_outages(
     consumer.service = Distribution::Uniform(1, 1);
     consumer.outages = Listed::new(outages.expect(rt, "memory"));
     consumer.fail_permille = otherwise;
+    consumer.fail_service = fail_service;
     let began = moment.saturating_sub(1);
     let life: &[Step] = &[
         (began, Told::Two, "nothing", Some(u64::from(moment))),
@@ -743,7 +834,21 @@ fn the_first_outage_that_has_a_moment_says_how_many_fail(rt: HostRuntime) {
         (299, 0, "serve r-2-4-1 true"),
         (300, 0, "serve r-2-4-1 false"),
     ] {
-        serve_in_outages(&rt, rt.alloc(), moment, otherwise, wanted);
+        serve_in_outages(&rt, rt.alloc(), moment, otherwise, None, wanted);
+    }
+}
+
+#[test]
+fn an_outage_has_a_service_that_is_decided_when_it_begins(rt: HostRuntime) {
+    for &(moment, otherwise, wanted) in &[
+        (100, 1000, "serve r-2-4-1 true"),
+        (101, 1000, "serve r-2-4-1 false"),
+        (200, 0, "serve r-2-4-1 false"),
+        (201, 0, "serve r-2-4-1 true"),
+        (300, 0, "serve r-2-4-1 true"),
+        (301, 0, "serve r-2-4-1 false"),
+    ] {
+        serve_in_outages(&rt, rt.alloc(), moment, otherwise, Some(1), wanted);
     }
 }
 

@@ -37,26 +37,30 @@ pub returns-in_err-serving : goal.returns-in_err-serving
 unfolding service
 returns-in_err-serving c = way_out _ _ _ _ c.from_residual-in_err-serving.ensures.1 (past _ _ (rw c.version.ensures at c.in_ok-known_consumer_keys.ensures) (past _ _ c.in_ok-start.ensures (past _ _ c.in_ok-batch.ensures (past _ _ c.in_ok-gather.ensures (past _ _ c.in_ok-wait.ensures (past _ _ c.in_ok-timeout.ensures (past _ _ c.in_ok-service.ensures (fails_first _ _ _ c.in_err-serving.ensures))))))))
 
+pub returns-in_err-fail_service : goal.returns-in_err-fail_service
+unfolding service
+returns-in_err-fail_service c = way_out _ _ _ _ c.from_residual-in_err-fail_service.ensures.1 (past _ _ (rw c.version.ensures at c.in_ok-known_consumer_keys.ensures) (past _ _ c.in_ok-start.ensures (past _ _ c.in_ok-batch.ensures (past _ _ c.in_ok-gather.ensures (past _ _ c.in_ok-wait.ensures (past _ _ c.in_ok-timeout.ensures (past _ _ c.in_ok-service.ensures (past _ _ c.in_ok-serving.ensures (fails_first _ _ _ c.in_err-fail_service.ensures)))))))))
+
 pub returns-in_err-fail_permille : goal.returns-in_err-fail_permille
 unfolding service
-returns-in_err-fail_permille c = way_out _ _ _ _ c.from_residual-in_err-fail_permille.ensures.1 (past _ _ (rw c.version.ensures at c.in_ok-known_consumer_keys.ensures) (past _ _ c.in_ok-start.ensures (past _ _ c.in_ok-batch.ensures (past _ _ c.in_ok-gather.ensures (past _ _ c.in_ok-wait.ensures (past _ _ c.in_ok-timeout.ensures (past _ _ c.in_ok-service.ensures (past _ _ c.in_ok-serving.ensures (fails_first _ _ _ c.in_err-fail_permille.ensures)))))))))
+returns-in_err-fail_permille c = way_out _ _ _ _ c.from_residual-in_err-fail_permille.ensures.1 (past _ _ (rw c.version.ensures at c.in_ok-known_consumer_keys.ensures) (past _ _ c.in_ok-start.ensures (past _ _ c.in_ok-batch.ensures (past _ _ c.in_ok-gather.ensures (past _ _ c.in_ok-wait.ensures (past _ _ c.in_ok-timeout.ensures (past _ _ c.in_ok-service.ensures (past _ _ c.in_ok-serving.ensures (past _ _ c.in_ok-fail_service.ensures (fails_first _ _ _ c.in_err-fail_permille.ensures))))))))))
 
 pub returns-in_err-idle : goal.returns-in_err-idle
 unfolding service
-returns-in_err-idle c = way_out _ _ _ _ c.from_residual-in_err-idle.ensures.1 (past _ _ (rw c.version.ensures at c.in_ok-known_consumer_keys.ensures) (past _ _ c.in_ok-start.ensures (past _ _ c.in_ok-batch.ensures (past _ _ c.in_ok-gather.ensures (past _ _ c.in_ok-wait.ensures (past _ _ c.in_ok-timeout.ensures (past _ _ c.in_ok-service.ensures (past _ _ c.in_ok-serving.ensures (past _ _ c.in_ok-fail_permille.ensures (fails_first _ _ _ c.in_err-idle.ensures))))))))))
+returns-in_err-idle c = way_out _ _ _ _ c.from_residual-in_err-idle.ensures.1 (past _ _ (rw c.version.ensures at c.in_ok-known_consumer_keys.ensures) (past _ _ c.in_ok-start.ensures (past _ _ c.in_ok-batch.ensures (past _ _ c.in_ok-gather.ensures (past _ _ c.in_ok-wait.ensures (past _ _ c.in_ok-timeout.ensures (past _ _ c.in_ok-service.ensures (past _ _ c.in_ok-serving.ensures (past _ _ c.in_ok-fail_service.ensures (past _ _ c.in_ok-fail_permille.ensures (fails_first _ _ _ c.in_err-idle.ensures)))))))))))
 
 pub returns-in_err-forward : goal.returns-in_err-forward
 unfolding service
-returns-in_err-forward c = way_out _ _ _ _ c.from_residual-in_err-forward.ensures.1 (past _ _ (rw c.version.ensures at c.in_ok-known_consumer_keys.ensures) (past _ _ c.in_ok-start.ensures (past _ _ c.in_ok-batch.ensures (past _ _ c.in_ok-gather.ensures (past _ _ c.in_ok-wait.ensures (past _ _ c.in_ok-timeout.ensures (past _ _ c.in_ok-service.ensures (past _ _ c.in_ok-serving.ensures (past _ _ c.in_ok-fail_permille.ensures (past _ _ c.in_ok-idle.ensures (fails_first _ _ _ (rw c.has.ensures at c.in_err-forward.ensures))))))))))))
+returns-in_err-forward c = way_out _ _ _ _ c.from_residual-in_err-forward.ensures.1 (past _ _ (rw c.version.ensures at c.in_ok-known_consumer_keys.ensures) (past _ _ c.in_ok-start.ensures (past _ _ c.in_ok-batch.ensures (past _ _ c.in_ok-gather.ensures (past _ _ c.in_ok-wait.ensures (past _ _ c.in_ok-timeout.ensures (past _ _ c.in_ok-service.ensures (past _ _ c.in_ok-serving.ensures (past _ _ c.in_ok-fail_service.ensures (past _ _ c.in_ok-fail_permille.ensures (past _ _ c.in_ok-idle.ensures (fails_first _ _ _ (rw c.has.ensures at c.in_err-forward.ensures)))))))))))))
 
 pub returns-in_err-stop : goal.returns-in_err-stop
 unfolding service
-returns-in_err-stop c = way_out _ _ _ _ c.from_residual-in_err-stop.ensures.1 (past _ _ (rw c.version.ensures at c.in_ok-known_consumer_keys.ensures) (past _ _ c.in_ok-start.ensures (past _ _ c.in_ok-batch.ensures (past _ _ c.in_ok-gather.ensures (past _ _ c.in_ok-wait.ensures (past _ _ c.in_ok-timeout.ensures (past _ _ c.in_ok-service.ensures (past _ _ c.in_ok-serving.ensures (past _ _ c.in_ok-fail_permille.ensures (past _ _ c.in_ok-idle.ensures (past _ _ (rw c.has.ensures at c.in_ok-forward.ensures) (fails_first _ _ _ c.in_err-stop.ensures))))))))))))
+returns-in_err-stop c = way_out _ _ _ _ c.from_residual-in_err-stop.ensures.1 (past _ _ (rw c.version.ensures at c.in_ok-known_consumer_keys.ensures) (past _ _ c.in_ok-start.ensures (past _ _ c.in_ok-batch.ensures (past _ _ c.in_ok-gather.ensures (past _ _ c.in_ok-wait.ensures (past _ _ c.in_ok-timeout.ensures (past _ _ c.in_ok-service.ensures (past _ _ c.in_ok-serving.ensures (past _ _ c.in_ok-fail_service.ensures (past _ _ c.in_ok-fail_permille.ensures (past _ _ c.in_ok-idle.ensures (past _ _ (rw c.has.ensures at c.in_ok-forward.ensures) (fails_first _ _ _ c.in_err-stop.ensures)))))))))))))
 
 pub returns-in_err-fails : goal.returns-in_err-fails
 unfolding service
-returns-in_err-fails c = way_out _ _ _ _ c.from_residual-in_err-fails.ensures.1 (past _ _ (rw c.version.ensures at c.in_ok-known_consumer_keys.ensures) (past _ _ c.in_ok-start.ensures (past _ _ c.in_ok-batch.ensures (past _ _ c.in_ok-gather.ensures (past _ _ c.in_ok-wait.ensures (past _ _ c.in_ok-timeout.ensures (past _ _ c.in_ok-service.ensures (past _ _ c.in_ok-serving.ensures (past _ _ c.in_ok-fail_permille.ensures (past _ _ c.in_ok-idle.ensures (past _ _ (rw c.has.ensures at c.in_ok-forward.ensures) (past _ _ c.in_ok-stop.ensures (fails_first _ _ _ c.in_err-fails.ensures)))))))))))))
+returns-in_err-fails c = way_out _ _ _ _ c.from_residual-in_err-fails.ensures.1 (past _ _ (rw c.version.ensures at c.in_ok-known_consumer_keys.ensures) (past _ _ c.in_ok-start.ensures (past _ _ c.in_ok-batch.ensures (past _ _ c.in_ok-gather.ensures (past _ _ c.in_ok-wait.ensures (past _ _ c.in_ok-timeout.ensures (past _ _ c.in_ok-service.ensures (past _ _ c.in_ok-serving.ensures (past _ _ c.in_ok-fail_service.ensures (past _ _ c.in_ok-fail_permille.ensures (past _ _ c.in_ok-idle.ensures (past _ _ (rw c.has.ensures at c.in_ok-forward.ensures) (past _ _ c.in_ok-stop.ensures (fails_first _ _ _ c.in_err-fails.ensures))))))))))))))
 
 pub returns : goal.returns
 unfolding service and_then
-returns c = rw ((rw c.version.ensures at c.in_ok-known_consumer_keys.ensures), c.in_ok-start.ensures, c.in_ok-batch.ensures, c.in_ok-gather.ensures, c.in_ok-wait.ensures, c.in_ok-timeout.ensures, c.in_ok-service.ensures, c.in_ok-serving.ensures, c.in_ok-fail_permille.ensures, c.in_ok-idle.ensures, (rw c.has.ensures at c.in_ok-forward.ensures), c.in_ok-stop.ensures, c.in_ok-fails.ensures) refl
+returns c = rw ((rw c.version.ensures at c.in_ok-known_consumer_keys.ensures), c.in_ok-start.ensures, c.in_ok-batch.ensures, c.in_ok-gather.ensures, c.in_ok-wait.ensures, c.in_ok-timeout.ensures, c.in_ok-service.ensures, c.in_ok-serving.ensures, c.in_ok-fail_service.ensures, c.in_ok-fail_permille.ensures, c.in_ok-idle.ensures, (rw c.has.ensures at c.in_ok-forward.ensures), c.in_ok-stop.ensures, c.in_ok-fails.ensures) refl

@@ -1,4 +1,4 @@
-use Rattle.std.proofs.Common.{refl, rules}
+use Rattle.std.proofs.Common.{refl}
 use Rattle.sim_actor.proofs.life.Life.gather.Goals as goal
 
 pub returns-then-not-is_gathered-clause-decision : goal.returns-then-not-is_gathered-clause-decision
@@ -10,5 +10,4 @@ returns-then-not-is_gathered-clause-decision c s =
 pub returns-clause-decision : goal.returns-clause-decision
 returns-clause-decision c s =
     let yes = rw (← c.self.view_is) at c.if-not-is_gathered.ensures s in
-    let began = rw c.held_count-messages.ensures at c.begin.ensures.life s in
-    rw (← c.self.view_is, ← yes) (search rules)
+    rw (← c.self.view_is, ← yes) (rw (← c.self.view_is) at c.serve_batch.ensures.decision s)
