@@ -86,6 +86,29 @@ fn is_first_with(actors: &[Actor], place: usize, number: u32) -> bool
     place == 0 || actors[place - 1].number() < number
 }
 
+// The index of the actor with a number if the numbers from it to the last actor's follow one
+// another, as those of the consumers of a queue do.
+fn place_before_last(actors: &[Actor], number: u32) -> Option<usize>
+    ensures within { IfSome result (λ place. place < length actors.now) }
+{
+    let last = actors.last()?.number();
+    let behind = last.checked_sub(number)? as usize;
+    (actors.len() - 1).checked_sub(behind)
+}
+
+// The same as `first_in_order`, of a number that may stand where `place_before_last` says.
+fn near_or_in_order(actors: &[Actor], number: u32) -> Option<usize>
+    requires { IsNonDecreasingBy (λ a. a.number) actors.now }
+    ensures { result ≡ position (is_actor number) actors.now }
+{
+    if let Some(place) = place_before_last(actors, number) {
+        if is_first_with(actors, place, number) {
+            return Some(place);
+        }
+    }
+    first_in_order(actors, number)
+}
+
 // The index of the first actor with a number, among actors whose numbers never fall. It tries the
 // one that wakes next before it searches.
 fn found_in_order(actors: &MarkedList<Actor>, number: u32) -> Option<usize>
@@ -97,7 +120,7 @@ fn found_in_order(actors: &MarkedList<Actor>, number: u32) -> Option<usize>
             return Some(place);
         }
     }
-    first_in_order(actors.values(), number)
+    near_or_in_order(actors.values(), number)
 }
 
 // Updates the mark of the actor that was called last, if there is one.
