@@ -142,6 +142,66 @@ case_0_equal_permilles : shown_upto 3 0 [] (codes "version = 3\nhorizon = 1000\n
 unfolding reading_on_literals running_on_literals columns_of
 case_0_equal_permilles = refl
 
+-- faults-3/failed_service_after_the_time_of_each.toml
+case_0_failed_service_after_the_time_of_each : shown_upto 3 0 [] (codes "version = 3\nhorizon = 1000\n[[queue]]\nname = \"q\"\n[[queue]]\nname = \"f.fifo\"\n[[actor]]\nname = \"c\"\nkind = \"consumer\"\nqueue = \"q\"\nservice_min_ms = 1\nservice_max_ms = 1\nbatch_service = \"once\"\nservice_each_ms = -1\nfail_service_ms = -1\nbatch_fails = \"whole\"\n")
+    ≡ refused (codes "refused 14 OutOfRange at actor[0].service_each_ms\n")
+unfolding reading_on_literals running_on_literals columns_of
+case_0_failed_service_after_the_time_of_each = refl
+
+-- faults-3/failed_service_before_the_chance.toml
+case_0_failed_service_before_the_chance : shown_upto 3 0 [] (codes "version = 3\nhorizon = 1000\n[[queue]]\nname = \"q\"\n[[queue]]\nname = \"f.fifo\"\n[[actor]]\nname = \"c\"\nkind = \"consumer\"\nqueue = \"q\"\nservice_min_ms = 1\nservice_max_ms = 1\nfail_service_ms = -1\nfail_permille = -1\n")
+    ≡ refused (codes "refused 14 OutOfRange at actor[0].fail_service_ms\n")
+unfolding reading_on_literals running_on_literals columns_of
+case_0_failed_service_before_the_chance = refl
+
+-- faults-3/failed_service_beside_single_services.toml
+case_0_failed_service_beside_single_services : shown_upto 3 0 [] (codes "version = 3\nhorizon = 1000\n[[queue]]\nname = \"q\"\n[[queue]]\nname = \"f.fifo\"\n[[actor]]\nname = \"c\"\nkind = \"consumer\"\nqueue = \"q\"\nservice_min_ms = 1\nservice_max_ms = 1\nbatch_service = \"each\"\nfail_service_ms = 43200001\nbatch_fails = \"each\"\n")
+    ≡ refused (codes "refused 14 OutOfRange at actor[0].fail_service_ms\n")
+unfolding reading_on_literals running_on_literals columns_of
+case_0_failed_service_beside_single_services = refl
+
+-- faults-3/failed_service_in_version_two.toml
+case_0_failed_service_in_version_two : shown_upto 3 0 [] (codes "version = 2\nhorizon = 1000\n[[queue]]\nname = \"q\"\n[[queue]]\nname = \"f.fifo\"\n[[actor]]\nname = \"c\"\nkind = \"consumer\"\nqueue = \"q\"\nservice_min_ms = 1\nservice_max_ms = 1\nfail_service_ms = 1\n")
+    ≡ refused (codes "refused 11 UnknownKey at actor[0].fail_service_ms\n")
+unfolding reading_on_literals running_on_literals columns_of
+case_0_failed_service_in_version_two = refl
+
+-- faults-3/failed_service_of_a_batch_by_another_word.toml
+case_0_failed_service_of_a_batch_by_another_word : shown_upto 3 0 [] (codes "version = 3\nhorizon = 1000\n[[queue]]\nname = \"q\"\n[[queue]]\nname = \"f.fifo\"\n[[actor]]\nname = \"c\"\nkind = \"consumer\"\nqueue = \"q\"\nservice_min_ms = 1\nservice_max_ms = 1\nbatch_service = \"once\"\nfail_service_ms = 1\nbatch_fails = \"all\"\n")
+    ≡ refused (codes "refused 11 UnknownKey at actor[0].fail_service_ms\n")
+unfolding reading_on_literals running_on_literals columns_of
+case_0_failed_service_of_a_batch_by_another_word = refl
+
+-- faults-3/failed_service_of_a_batch_without_its_word.toml
+case_0_failed_service_of_a_batch_without_its_word : shown_upto 3 0 [] (codes "version = 3\nhorizon = 1000\n[[queue]]\nname = \"q\"\n[[queue]]\nname = \"f.fifo\"\n[[actor]]\nname = \"c\"\nkind = \"consumer\"\nqueue = \"q\"\nservice_min_ms = 1\nservice_max_ms = 1\nbatch_service = \"once\"\nfail_service_ms = 1\n")
+    ≡ refused (codes "refused 11 UnknownKey at actor[0].fail_service_ms\n")
+unfolding reading_on_literals running_on_literals columns_of
+case_0_failed_service_of_a_batch_without_its_word = refl
+
+-- faults-3/failed_service_of_a_producer.toml
+case_0_failed_service_of_a_producer : shown_upto 3 0 [] (codes "version = 3\nhorizon = 1000\n[[queue]]\nname = \"q\"\n[[queue]]\nname = \"f.fifo\"\n[[actor]]\nname = \"p\"\nkind = \"producer\"\nqueue = \"q\"\ncount = 1\nbody = \"m\"\ngap_min_ms = 1\ngap_max_ms = 1\nfail_service_ms = 1\n")
+    ≡ refused (codes "refused 11 UnknownKey at actor[0].fail_service_ms\n")
+unfolding reading_on_literals running_on_literals columns_of
+case_0_failed_service_of_a_producer = refl
+
+-- faults-3/failed_service_over_12_hours.toml
+case_0_failed_service_over_12_hours : shown_upto 3 0 [] (codes "version = 3\nhorizon = 1000\n[[queue]]\nname = \"q\"\n[[queue]]\nname = \"f.fifo\"\n[[actor]]\nname = \"c\"\nkind = \"consumer\"\nqueue = \"q\"\nservice_min_ms = 1\nservice_max_ms = 1\nfail_service_ms = 43200001\n")
+    ≡ refused (codes "refused 14 OutOfRange at actor[0].fail_service_ms\n")
+unfolding reading_on_literals running_on_literals columns_of
+case_0_failed_service_over_12_hours = refl
+
+-- faults-3/failed_service_that_is_no_number.toml
+case_0_failed_service_that_is_no_number : shown_upto 3 0 [] (codes "version = 3\nhorizon = 1000\n[[queue]]\nname = \"q\"\n[[queue]]\nname = \"f.fifo\"\n[[actor]]\nname = \"c\"\nkind = \"consumer\"\nqueue = \"q\"\nservice_min_ms = 1\nservice_max_ms = 1\nfail_service_ms = \"1\"\n")
+    ≡ refused (codes "refused 13 WrongType at actor[0].fail_service_ms\n")
+unfolding reading_on_literals running_on_literals columns_of
+case_0_failed_service_that_is_no_number = refl
+
+-- faults-3/failed_service_where_each_message_is_decided.toml
+case_0_failed_service_where_each_message_is_decided : shown_upto 3 0 [] (codes "version = 3\nhorizon = 1000\n[[queue]]\nname = \"q\"\n[[queue]]\nname = \"f.fifo\"\n[[actor]]\nname = \"c\"\nkind = \"consumer\"\nqueue = \"q\"\nservice_min_ms = 1\nservice_max_ms = 1\nbatch_service = \"once\"\nfail_service_ms = 1\nbatch_fails = \"each\"\n")
+    ≡ refused (codes "refused 11 UnknownKey at actor[0].fail_service_ms\n")
+unfolding reading_on_literals running_on_literals columns_of
+case_0_failed_service_where_each_message_is_decided = refl
+
 -- faults-3/failing_text_at_a_producer.toml
 case_0_failing_text_at_a_producer : shown_upto 3 0 [] (codes "version = 3\nhorizon = 1000\n[[queue]]\nname = \"q\"\n[[queue]]\nname = \"f.fifo\"\n[[actor]]\nname = \"p\"\nkind = \"producer\"\nqueue = \"q\"\ncount = 1\nbody = \"m\"\ngap_min_ms = 1\ngap_max_ms = 1\nfails_on = \"m\"\n")
     ≡ refused (codes "refused 11 UnknownKey at actor[0].fails_on\n")

@@ -242,6 +242,197 @@ case_0_copy_of_one : shown_upto 3 24 [] (codes "# One copy is named w-1 and has 
 unfolding reading_on_literals running_on_literals columns_of
 case_0_copy_of_one = refl
 
+-- version-3/failed_service_after_gathering.toml
+case_0_failed_service_after_gathering : shown_upto 3 26 [] (codes "# The receive of m-0-0 is in the first outage, and the end of its service is in none. It gathers until 510, and the\n# service begins then, in the second outage. So it fails, and takes 70 ms.\nversion = 3\nhorizon = 1000\n[[queue]]\nname = \"q\"\n[[actor]]\nname = \"c\"\nkind = \"consumer\"\nqueue = \"q\"\nstart_ms = 10\nbatch = 2\ngather_ms = 500\nwait_s = 20\nservice_min_ms = 100\nservice_max_ms = 100\nfail_service_ms = 70\nfails_between_ms = [[0, 20], [510, 511]]\n[[actor]]\nname = \"s\"\nkind = \"script\"\nqueue = \"q\"\ncalls = \"\"\"\nat,call,body,group,id,delay,receipt,max,wait,timeout,task\n5,send,a,,,,,,,,\n\"\"\"\n")
+    ≡ ran (((codes "at") ∷ (codes "queue") ∷ (codes "agent") ∷ (codes "call") ∷ (codes "answer") ∷ (codes "message") ∷ (codes "receipt") ∷ (codes "detail") ∷ []) ∷
+    ((codes "5") ∷ (codes "q") ∷ (codes "s") ∷ (codes "send") ∷ (codes "new") ∷ (codes "m-0-0") ∷ [] ∷ digest (codes "a") ∷ []) ∷
+    ((codes "10") ∷ (codes "q") ∷ (codes "c") ∷ (codes "receive") ∷ (codes "ok") ∷ (codes "m-0-0") ∷ (codes "r-0-0-1") ∷ (codes "o-0-0") ∷ []) ∷
+    ((codes "11") ∷ (codes "q") ∷ (codes "c") ∷ (codes "receive") ∷ (codes "empty") ∷ [] ∷ [] ∷ [] ∷ []) ∷
+    ((codes "510") ∷ (codes "q") ∷ (codes "c") ∷ (codes "receive") ∷ (codes "empty") ∷ [] ∷ [] ∷ [] ∷ []) ∷
+    ((codes "580") ∷ (codes "q") ∷ (codes "c") ∷ (codes "fail") ∷ (codes "ok") ∷ (codes "m-0-0") ∷ (codes "r-0-0-1") ∷ [] ∷ []) ∷
+    ((codes "581") ∷ (codes "q") ∷ (codes "c") ∷ (codes "receive") ∷ (codes "wait") ∷ [] ∷ [] ∷ [] ∷ []) ∷
+    ((codes "final") ∷ (codes "queue") ∷ (codes "message") ∷ (codes "origin") ∷ (codes "place") ∷ (codes "due") ∷ (codes "enqueued") ∷ (codes "receives") ∷ (codes "group") ∷ (codes "md5") ∷ []) ∷
+    ((codes "final") ∷ (codes "q") ∷ (codes "m-0-0") ∷ (codes "o-0-0") ∷ (codes "inflight") ∷ (codes "30010") ∷ (codes "5") ∷ (codes "1") ∷ [] ∷ digest (codes "a") ∷ []) ∷
+    ((codes "transfer") ∷ (codes "from") ∷ (codes "to") ∷ (codes "kind") ∷ (codes "due") ∷ (codes "number") ∷ (codes "message") ∷ (codes "origin") ∷ (codes "md5") ∷ []) ∷
+    ((codes "task") ∷ (codes "name") ∷ (codes "status") ∷ (codes "moved") ∷ []) ∷
+    ((codes "report") ∷ (codes "queue") ∷ (codes "sends") ∷ (codes "repeats") ∷ (codes "receives") ∷ (codes "empties") ∷ (codes "deletes") ∷ (codes "expiries") ∷ (codes "redrives") ∷ (codes "moves") ∷ (codes "arrivals") ∷ (codes "OverLimit") ∷ (codes "MessageNotInflight") ∷ (codes "ReceiptHandleIsInvalid") ∷ (codes "BadTimeout") ∷ (codes "MissingGroup") ∷ (codes "MissingDeduplication") ∷ (codes "BadDelay") ∷ (codes "TaskRunning") ∷ (codes "NoTask") ∷ (codes "depth_max") ∷ (codes "visible") ∷ (codes "in_flight") ∷ (codes "delayed") ∷ (codes "age_sum") ∷ (codes "age_max") ∷ (codes "age_p50") ∷ (codes "age_p95") ∷ (codes "age_p99") ∷ []) ∷
+    ((codes "report") ∷ (codes "q") ∷ (codes "1") ∷ (codes "0") ∷ (codes "1") ∷ (codes "2") ∷ (codes "0") ∷ (codes "0") ∷ (codes "0") ∷ (codes "0") ∷ (codes "0") ∷ (codes "0") ∷ (codes "0") ∷ (codes "0") ∷ (codes "0") ∷ (codes "0") ∷ (codes "0") ∷ (codes "0") ∷ (codes "0") ∷ (codes "0") ∷ (codes "1") ∷ (codes "0") ∷ (codes "1") ∷ (codes "0") ∷ (codes "0") ∷ [] ∷ [] ∷ [] ∷ [] ∷ []) ∷ [])
+unfolding reading_on_literals running_on_literals columns_of
+case_0_failed_service_after_gathering = refl
+
+-- version-3/failed_service_draws_at_its_begin.toml
+case_0_failed_service_draws_at_its_begin : shown_upto 3 33 [] (codes "# Words of agent 2: 717.678 (a time of 100 + 71 ms, which is not used) and 447.024 (the chance of m-0-0, below 450: it\n# fails, and takes 40 ms), 12.444 (its timeout, 1 s of 0 to 100), 505.346 (the time of m-0-1, 100 + 50) and 192.088 (its\n# chance, not below 100, the one in the outage in which it begins), 387.809 (a time that is not used), 121.336 (m-0-0\n# fails again) and 70.690 (its timeout, 7 s).\nversion = 3\nhorizon = 1100\n[[queue]]\nname = \"q\"\n[[queue]]\nname = \"p\"\n[[actor]]\nname = \"c\"\nkind = \"consumer\"\nqueue = \"q\"\nstart_ms = 10\nbatch = 2\nwait_s = 20\nservice_min_ms = 100\nservice_max_ms = 199\nfail_service_ms = 40\nfail_permille = 450\nfails_from_ms = 50\nfails_to_ms = 51\nfails_permille = 100\nbackoff_s = [100]\nbackoff_jitter = \"full\"\n[[actor]]\nname = \"s\"\nkind = \"script\"\nqueue = \"q\"\ncalls = \"\"\"\nat,call,body,group,id,delay,receipt,max,wait,timeout,task\n0,send,a,,,,,,,,\n1,send,b,,,,,,,,\n\"\"\"\n")
+    ≡ ran (((codes "at") ∷ (codes "queue") ∷ (codes "agent") ∷ (codes "call") ∷ (codes "answer") ∷ (codes "message") ∷ (codes "receipt") ∷ (codes "detail") ∷ []) ∷
+    ((codes "0") ∷ (codes "q") ∷ (codes "s") ∷ (codes "send") ∷ (codes "new") ∷ (codes "m-0-0") ∷ [] ∷ digest (codes "a") ∷ []) ∷
+    ((codes "1") ∷ (codes "q") ∷ (codes "s") ∷ (codes "send") ∷ (codes "new") ∷ (codes "m-0-1") ∷ [] ∷ digest (codes "b") ∷ []) ∷
+    ((codes "10") ∷ (codes "q") ∷ (codes "c") ∷ (codes "receive") ∷ (codes "ok") ∷ (codes "m-0-0") ∷ (codes "r-0-0-1") ∷ (codes "o-0-0") ∷ []) ∷
+    ((codes "10") ∷ (codes "q") ∷ (codes "c") ∷ (codes "receive") ∷ (codes "ok") ∷ (codes "m-0-1") ∷ (codes "r-0-1-1") ∷ (codes "o-0-1") ∷ []) ∷
+    ((codes "50") ∷ (codes "q") ∷ (codes "c") ∷ (codes "fail") ∷ (codes "ok") ∷ (codes "m-0-0") ∷ (codes "r-0-0-1") ∷ [] ∷ []) ∷
+    ((codes "50") ∷ (codes "q") ∷ (codes "c") ∷ (codes "change") ∷ (codes "ok") ∷ (codes "m-0-0") ∷ (codes "r-0-0-1") ∷ (codes "1") ∷ []) ∷
+    ((codes "200") ∷ (codes "q") ∷ (codes "c") ∷ (codes "delete") ∷ (codes "deleted") ∷ (codes "m-0-1") ∷ (codes "r-0-1-1") ∷ (codes "199") ∷ []) ∷
+    ((codes "201") ∷ (codes "q") ∷ (codes "c") ∷ (codes "receive") ∷ (codes "wait") ∷ [] ∷ [] ∷ [] ∷ []) ∷
+    ((codes "1050") ∷ (codes "q") ∷ (codes "q") ∷ (codes "release") ∷ (codes "visible") ∷ (codes "m-0-0") ∷ [] ∷ [] ∷ []) ∷
+    ((codes "1050") ∷ (codes "q") ∷ (codes "c") ∷ (codes "receive") ∷ (codes "ok") ∷ (codes "m-0-0") ∷ (codes "r-0-0-2") ∷ (codes "o-0-0") ∷ []) ∷
+    ((codes "1090") ∷ (codes "q") ∷ (codes "c") ∷ (codes "fail") ∷ (codes "ok") ∷ (codes "m-0-0") ∷ (codes "r-0-0-2") ∷ [] ∷ []) ∷
+    ((codes "1090") ∷ (codes "q") ∷ (codes "c") ∷ (codes "change") ∷ (codes "ok") ∷ (codes "m-0-0") ∷ (codes "r-0-0-2") ∷ (codes "7") ∷ []) ∷
+    ((codes "1091") ∷ (codes "q") ∷ (codes "c") ∷ (codes "receive") ∷ (codes "wait") ∷ [] ∷ [] ∷ [] ∷ []) ∷
+    ((codes "final") ∷ (codes "queue") ∷ (codes "message") ∷ (codes "origin") ∷ (codes "place") ∷ (codes "due") ∷ (codes "enqueued") ∷ (codes "receives") ∷ (codes "group") ∷ (codes "md5") ∷ []) ∷
+    ((codes "final") ∷ (codes "q") ∷ (codes "m-0-0") ∷ (codes "o-0-0") ∷ (codes "inflight") ∷ (codes "8090") ∷ (codes "0") ∷ (codes "2") ∷ [] ∷ digest (codes "a") ∷ []) ∷
+    ((codes "transfer") ∷ (codes "from") ∷ (codes "to") ∷ (codes "kind") ∷ (codes "due") ∷ (codes "number") ∷ (codes "message") ∷ (codes "origin") ∷ (codes "md5") ∷ []) ∷
+    ((codes "task") ∷ (codes "name") ∷ (codes "status") ∷ (codes "moved") ∷ []) ∷
+    ((codes "report") ∷ (codes "queue") ∷ (codes "sends") ∷ (codes "repeats") ∷ (codes "receives") ∷ (codes "empties") ∷ (codes "deletes") ∷ (codes "expiries") ∷ (codes "redrives") ∷ (codes "moves") ∷ (codes "arrivals") ∷ (codes "OverLimit") ∷ (codes "MessageNotInflight") ∷ (codes "ReceiptHandleIsInvalid") ∷ (codes "BadTimeout") ∷ (codes "MissingGroup") ∷ (codes "MissingDeduplication") ∷ (codes "BadDelay") ∷ (codes "TaskRunning") ∷ (codes "NoTask") ∷ (codes "depth_max") ∷ (codes "visible") ∷ (codes "in_flight") ∷ (codes "delayed") ∷ (codes "age_sum") ∷ (codes "age_max") ∷ (codes "age_p50") ∷ (codes "age_p95") ∷ (codes "age_p99") ∷ []) ∷
+    ((codes "report") ∷ (codes "q") ∷ (codes "2") ∷ (codes "0") ∷ (codes "3") ∷ (codes "0") ∷ (codes "1") ∷ (codes "0") ∷ (codes "0") ∷ (codes "0") ∷ (codes "0") ∷ (codes "0") ∷ (codes "0") ∷ (codes "0") ∷ (codes "0") ∷ (codes "0") ∷ (codes "0") ∷ (codes "0") ∷ (codes "0") ∷ (codes "0") ∷ (codes "2") ∷ (codes "0") ∷ (codes "1") ∷ (codes "0") ∷ (codes "199") ∷ (codes "199") ∷ (codes "199") ∷ (codes "199") ∷ (codes "199") ∷ []) ∷
+    ((codes "report") ∷ (codes "p") ∷ (codes "0") ∷ (codes "0") ∷ (codes "0") ∷ (codes "0") ∷ (codes "0") ∷ (codes "0") ∷ (codes "0") ∷ (codes "0") ∷ (codes "0") ∷ (codes "0") ∷ (codes "0") ∷ (codes "0") ∷ (codes "0") ∷ (codes "0") ∷ (codes "0") ∷ (codes "0") ∷ (codes "0") ∷ (codes "0") ∷ (codes "0") ∷ (codes "0") ∷ (codes "0") ∷ (codes "0") ∷ (codes "0") ∷ [] ∷ [] ∷ [] ∷ [] ∷ []) ∷ [])
+unfolding reading_on_literals running_on_literals columns_of
+case_0_failed_service_draws_at_its_begin = refl
+
+-- version-3/failed_service_in_a_whole_batch.toml
+case_0_failed_service_in_a_whole_batch : shown_upto 3 28 [] (codes "# Each message has a service of its own. That of m-0-0 ends well at 110, without a row. That of m-0-1 fails and takes\n# 300 ms, until 410. m-0-2 is not served, and nothing is deleted.\nversion = 3\nhorizon = 1000\n[[queue]]\nname = \"q\"\n[[actor]]\nname = \"c\"\nkind = \"consumer\"\nqueue = \"q\"\nstart_ms = 10\nbatch = 3\nwait_s = 20\nservice_min_ms = 100\nservice_max_ms = 100\nfail_service_ms = 300\nfails_on = \"bad\"\nbatch_fails = \"whole\"\n[[actor]]\nname = \"s\"\nkind = \"script\"\nqueue = \"q\"\ncalls = \"\"\"\nat,call,body,group,id,delay,receipt,max,wait,timeout,task\n0,send,a,,,,,,,,\n1,send,bad,,,,,,,,\n2,send,c,,,,,,,,\n\"\"\"\n")
+    ≡ ran (((codes "at") ∷ (codes "queue") ∷ (codes "agent") ∷ (codes "call") ∷ (codes "answer") ∷ (codes "message") ∷ (codes "receipt") ∷ (codes "detail") ∷ []) ∷
+    ((codes "0") ∷ (codes "q") ∷ (codes "s") ∷ (codes "send") ∷ (codes "new") ∷ (codes "m-0-0") ∷ [] ∷ digest (codes "a") ∷ []) ∷
+    ((codes "1") ∷ (codes "q") ∷ (codes "s") ∷ (codes "send") ∷ (codes "new") ∷ (codes "m-0-1") ∷ [] ∷ digest (codes "bad") ∷ []) ∷
+    ((codes "2") ∷ (codes "q") ∷ (codes "s") ∷ (codes "send") ∷ (codes "new") ∷ (codes "m-0-2") ∷ [] ∷ digest (codes "c") ∷ []) ∷
+    ((codes "10") ∷ (codes "q") ∷ (codes "c") ∷ (codes "receive") ∷ (codes "ok") ∷ (codes "m-0-0") ∷ (codes "r-0-0-1") ∷ (codes "o-0-0") ∷ []) ∷
+    ((codes "10") ∷ (codes "q") ∷ (codes "c") ∷ (codes "receive") ∷ (codes "ok") ∷ (codes "m-0-1") ∷ (codes "r-0-1-1") ∷ (codes "o-0-1") ∷ []) ∷
+    ((codes "10") ∷ (codes "q") ∷ (codes "c") ∷ (codes "receive") ∷ (codes "ok") ∷ (codes "m-0-2") ∷ (codes "r-0-2-1") ∷ (codes "o-0-2") ∷ []) ∷
+    ((codes "410") ∷ (codes "q") ∷ (codes "c") ∷ (codes "fail") ∷ (codes "ok") ∷ (codes "m-0-1") ∷ (codes "r-0-1-1") ∷ [] ∷ []) ∷
+    ((codes "411") ∷ (codes "q") ∷ (codes "c") ∷ (codes "receive") ∷ (codes "wait") ∷ [] ∷ [] ∷ [] ∷ []) ∷
+    ((codes "final") ∷ (codes "queue") ∷ (codes "message") ∷ (codes "origin") ∷ (codes "place") ∷ (codes "due") ∷ (codes "enqueued") ∷ (codes "receives") ∷ (codes "group") ∷ (codes "md5") ∷ []) ∷
+    ((codes "final") ∷ (codes "q") ∷ (codes "m-0-0") ∷ (codes "o-0-0") ∷ (codes "inflight") ∷ (codes "30010") ∷ (codes "0") ∷ (codes "1") ∷ [] ∷ digest (codes "a") ∷ []) ∷
+    ((codes "final") ∷ (codes "q") ∷ (codes "m-0-1") ∷ (codes "o-0-1") ∷ (codes "inflight") ∷ (codes "30010") ∷ (codes "1") ∷ (codes "1") ∷ [] ∷ digest (codes "bad") ∷ []) ∷
+    ((codes "final") ∷ (codes "q") ∷ (codes "m-0-2") ∷ (codes "o-0-2") ∷ (codes "inflight") ∷ (codes "30010") ∷ (codes "2") ∷ (codes "1") ∷ [] ∷ digest (codes "c") ∷ []) ∷
+    ((codes "transfer") ∷ (codes "from") ∷ (codes "to") ∷ (codes "kind") ∷ (codes "due") ∷ (codes "number") ∷ (codes "message") ∷ (codes "origin") ∷ (codes "md5") ∷ []) ∷
+    ((codes "task") ∷ (codes "name") ∷ (codes "status") ∷ (codes "moved") ∷ []) ∷
+    ((codes "report") ∷ (codes "queue") ∷ (codes "sends") ∷ (codes "repeats") ∷ (codes "receives") ∷ (codes "empties") ∷ (codes "deletes") ∷ (codes "expiries") ∷ (codes "redrives") ∷ (codes "moves") ∷ (codes "arrivals") ∷ (codes "OverLimit") ∷ (codes "MessageNotInflight") ∷ (codes "ReceiptHandleIsInvalid") ∷ (codes "BadTimeout") ∷ (codes "MissingGroup") ∷ (codes "MissingDeduplication") ∷ (codes "BadDelay") ∷ (codes "TaskRunning") ∷ (codes "NoTask") ∷ (codes "depth_max") ∷ (codes "visible") ∷ (codes "in_flight") ∷ (codes "delayed") ∷ (codes "age_sum") ∷ (codes "age_max") ∷ (codes "age_p50") ∷ (codes "age_p95") ∷ (codes "age_p99") ∷ []) ∷
+    ((codes "report") ∷ (codes "q") ∷ (codes "3") ∷ (codes "0") ∷ (codes "3") ∷ (codes "0") ∷ (codes "0") ∷ (codes "0") ∷ (codes "0") ∷ (codes "0") ∷ (codes "0") ∷ (codes "0") ∷ (codes "0") ∷ (codes "0") ∷ (codes "0") ∷ (codes "0") ∷ (codes "0") ∷ (codes "0") ∷ (codes "0") ∷ (codes "0") ∷ (codes "3") ∷ (codes "0") ∷ (codes "3") ∷ (codes "0") ∷ (codes "0") ∷ [] ∷ [] ∷ [] ∷ [] ∷ []) ∷ [])
+unfolding reading_on_literals running_on_literals columns_of
+case_0_failed_service_in_a_whole_batch = refl
+
+-- version-3/failed_service_is_decided_at_its_begin.toml
+case_0_failed_service_is_decided_at_its_begin : shown_upto 3 33 [] (codes "# The outage lasts from 110 to 610. The service of m-0-0 begins before it, and ends well in it. That of m-0-1 begins\n# with the outage, so it fails; it ends with the outage. Those of m-0-2 and m-0-3 begin at its end and later.\nversion = 3\nhorizon = 1000\n[[queue]]\nname = \"q\"\n[[actor]]\nname = \"c\"\nkind = \"consumer\"\nqueue = \"q\"\nstart_ms = 10\nbatch = 4\nwait_s = 20\nservice_min_ms = 100\nservice_max_ms = 100\nfail_service_ms = 500\nfails_from_ms = 110\nfails_to_ms = 610\n[[actor]]\nname = \"s\"\nkind = \"script\"\nqueue = \"q\"\ncalls = \"\"\"\nat,call,body,group,id,delay,receipt,max,wait,timeout,task\n0,send,a,,,,,,,,\n1,send,b,,,,,,,,\n2,send,c,,,,,,,,\n3,send,d,,,,,,,,\n\"\"\"\n")
+    ≡ ran (((codes "at") ∷ (codes "queue") ∷ (codes "agent") ∷ (codes "call") ∷ (codes "answer") ∷ (codes "message") ∷ (codes "receipt") ∷ (codes "detail") ∷ []) ∷
+    ((codes "0") ∷ (codes "q") ∷ (codes "s") ∷ (codes "send") ∷ (codes "new") ∷ (codes "m-0-0") ∷ [] ∷ digest (codes "a") ∷ []) ∷
+    ((codes "1") ∷ (codes "q") ∷ (codes "s") ∷ (codes "send") ∷ (codes "new") ∷ (codes "m-0-1") ∷ [] ∷ digest (codes "b") ∷ []) ∷
+    ((codes "2") ∷ (codes "q") ∷ (codes "s") ∷ (codes "send") ∷ (codes "new") ∷ (codes "m-0-2") ∷ [] ∷ digest (codes "c") ∷ []) ∷
+    ((codes "3") ∷ (codes "q") ∷ (codes "s") ∷ (codes "send") ∷ (codes "new") ∷ (codes "m-0-3") ∷ [] ∷ digest (codes "d") ∷ []) ∷
+    ((codes "10") ∷ (codes "q") ∷ (codes "c") ∷ (codes "receive") ∷ (codes "ok") ∷ (codes "m-0-0") ∷ (codes "r-0-0-1") ∷ (codes "o-0-0") ∷ []) ∷
+    ((codes "10") ∷ (codes "q") ∷ (codes "c") ∷ (codes "receive") ∷ (codes "ok") ∷ (codes "m-0-1") ∷ (codes "r-0-1-1") ∷ (codes "o-0-1") ∷ []) ∷
+    ((codes "10") ∷ (codes "q") ∷ (codes "c") ∷ (codes "receive") ∷ (codes "ok") ∷ (codes "m-0-2") ∷ (codes "r-0-2-1") ∷ (codes "o-0-2") ∷ []) ∷
+    ((codes "10") ∷ (codes "q") ∷ (codes "c") ∷ (codes "receive") ∷ (codes "ok") ∷ (codes "m-0-3") ∷ (codes "r-0-3-1") ∷ (codes "o-0-3") ∷ []) ∷
+    ((codes "110") ∷ (codes "q") ∷ (codes "c") ∷ (codes "delete") ∷ (codes "deleted") ∷ (codes "m-0-0") ∷ (codes "r-0-0-1") ∷ (codes "110") ∷ []) ∷
+    ((codes "610") ∷ (codes "q") ∷ (codes "c") ∷ (codes "fail") ∷ (codes "ok") ∷ (codes "m-0-1") ∷ (codes "r-0-1-1") ∷ [] ∷ []) ∷
+    ((codes "710") ∷ (codes "q") ∷ (codes "c") ∷ (codes "delete") ∷ (codes "deleted") ∷ (codes "m-0-2") ∷ (codes "r-0-2-1") ∷ (codes "708") ∷ []) ∷
+    ((codes "810") ∷ (codes "q") ∷ (codes "c") ∷ (codes "delete") ∷ (codes "deleted") ∷ (codes "m-0-3") ∷ (codes "r-0-3-1") ∷ (codes "807") ∷ []) ∷
+    ((codes "811") ∷ (codes "q") ∷ (codes "c") ∷ (codes "receive") ∷ (codes "wait") ∷ [] ∷ [] ∷ [] ∷ []) ∷
+    ((codes "final") ∷ (codes "queue") ∷ (codes "message") ∷ (codes "origin") ∷ (codes "place") ∷ (codes "due") ∷ (codes "enqueued") ∷ (codes "receives") ∷ (codes "group") ∷ (codes "md5") ∷ []) ∷
+    ((codes "final") ∷ (codes "q") ∷ (codes "m-0-1") ∷ (codes "o-0-1") ∷ (codes "inflight") ∷ (codes "30010") ∷ (codes "1") ∷ (codes "1") ∷ [] ∷ digest (codes "b") ∷ []) ∷
+    ((codes "transfer") ∷ (codes "from") ∷ (codes "to") ∷ (codes "kind") ∷ (codes "due") ∷ (codes "number") ∷ (codes "message") ∷ (codes "origin") ∷ (codes "md5") ∷ []) ∷
+    ((codes "task") ∷ (codes "name") ∷ (codes "status") ∷ (codes "moved") ∷ []) ∷
+    ((codes "report") ∷ (codes "queue") ∷ (codes "sends") ∷ (codes "repeats") ∷ (codes "receives") ∷ (codes "empties") ∷ (codes "deletes") ∷ (codes "expiries") ∷ (codes "redrives") ∷ (codes "moves") ∷ (codes "arrivals") ∷ (codes "OverLimit") ∷ (codes "MessageNotInflight") ∷ (codes "ReceiptHandleIsInvalid") ∷ (codes "BadTimeout") ∷ (codes "MissingGroup") ∷ (codes "MissingDeduplication") ∷ (codes "BadDelay") ∷ (codes "TaskRunning") ∷ (codes "NoTask") ∷ (codes "depth_max") ∷ (codes "visible") ∷ (codes "in_flight") ∷ (codes "delayed") ∷ (codes "age_sum") ∷ (codes "age_max") ∷ (codes "age_p50") ∷ (codes "age_p95") ∷ (codes "age_p99") ∷ []) ∷
+    ((codes "report") ∷ (codes "q") ∷ (codes "4") ∷ (codes "0") ∷ (codes "4") ∷ (codes "0") ∷ (codes "3") ∷ (codes "0") ∷ (codes "0") ∷ (codes "0") ∷ (codes "0") ∷ (codes "0") ∷ (codes "0") ∷ (codes "0") ∷ (codes "0") ∷ (codes "0") ∷ (codes "0") ∷ (codes "0") ∷ (codes "0") ∷ (codes "0") ∷ (codes "4") ∷ (codes "0") ∷ (codes "1") ∷ (codes "0") ∷ (codes "1625") ∷ (codes "807") ∷ (codes "708") ∷ (codes "807") ∷ (codes "807") ∷ []) ∷ [])
+unfolding reading_on_literals running_on_literals columns_of
+case_0_failed_service_is_decided_at_its_begin = refl
+
+-- version-3/failed_service_of_a_batch_at_once.toml
+case_0_failed_service_of_a_batch_at_once : shown_upto 3 42 [] (codes "# The service of all three messages fails by the second. It takes 50 ms, and no more for each message. All three get\n# their backoff, 1 ms apart. At 1060 m-0-0 comes back alone: its service ends well, and takes 100 ms and 20 for the\n# message. Then m-0-1 and m-0-2 fail in 50 ms.\nversion = 3\nhorizon = 1233\n[[queue]]\nname = \"q\"\n[[actor]]\nname = \"c\"\nkind = \"consumer\"\nqueue = \"q\"\nstart_ms = 10\nbatch = 3\nwait_s = 20\nservice_min_ms = 100\nservice_max_ms = 100\nbatch_service = \"once\"\nservice_each_ms = 20\nfail_service_ms = 50\nfails_on = \"bad\"\nbatch_fails = \"whole\"\nbackoff_s = [1]\n[[actor]]\nname = \"s\"\nkind = \"script\"\nqueue = \"q\"\ncalls = \"\"\"\nat,call,body,group,id,delay,receipt,max,wait,timeout,task\n0,send,a,,,,,,,,\n1,send,bad,,,,,,,,\n2,send,c,,,,,,,,\n\"\"\"\n")
+    ≡ ran (((codes "at") ∷ (codes "queue") ∷ (codes "agent") ∷ (codes "call") ∷ (codes "answer") ∷ (codes "message") ∷ (codes "receipt") ∷ (codes "detail") ∷ []) ∷
+    ((codes "0") ∷ (codes "q") ∷ (codes "s") ∷ (codes "send") ∷ (codes "new") ∷ (codes "m-0-0") ∷ [] ∷ digest (codes "a") ∷ []) ∷
+    ((codes "1") ∷ (codes "q") ∷ (codes "s") ∷ (codes "send") ∷ (codes "new") ∷ (codes "m-0-1") ∷ [] ∷ digest (codes "bad") ∷ []) ∷
+    ((codes "2") ∷ (codes "q") ∷ (codes "s") ∷ (codes "send") ∷ (codes "new") ∷ (codes "m-0-2") ∷ [] ∷ digest (codes "c") ∷ []) ∷
+    ((codes "10") ∷ (codes "q") ∷ (codes "c") ∷ (codes "receive") ∷ (codes "ok") ∷ (codes "m-0-0") ∷ (codes "r-0-0-1") ∷ (codes "o-0-0") ∷ []) ∷
+    ((codes "10") ∷ (codes "q") ∷ (codes "c") ∷ (codes "receive") ∷ (codes "ok") ∷ (codes "m-0-1") ∷ (codes "r-0-1-1") ∷ (codes "o-0-1") ∷ []) ∷
+    ((codes "10") ∷ (codes "q") ∷ (codes "c") ∷ (codes "receive") ∷ (codes "ok") ∷ (codes "m-0-2") ∷ (codes "r-0-2-1") ∷ (codes "o-0-2") ∷ []) ∷
+    ((codes "60") ∷ (codes "q") ∷ (codes "c") ∷ (codes "fail") ∷ (codes "ok") ∷ (codes "m-0-0") ∷ (codes "r-0-0-1") ∷ [] ∷ []) ∷
+    ((codes "60") ∷ (codes "q") ∷ (codes "c") ∷ (codes "change") ∷ (codes "ok") ∷ (codes "m-0-0") ∷ (codes "r-0-0-1") ∷ (codes "1") ∷ []) ∷
+    ((codes "61") ∷ (codes "q") ∷ (codes "c") ∷ (codes "change") ∷ (codes "ok") ∷ (codes "m-0-1") ∷ (codes "r-0-1-1") ∷ (codes "1") ∷ []) ∷
+    ((codes "62") ∷ (codes "q") ∷ (codes "c") ∷ (codes "change") ∷ (codes "ok") ∷ (codes "m-0-2") ∷ (codes "r-0-2-1") ∷ (codes "1") ∷ []) ∷
+    ((codes "63") ∷ (codes "q") ∷ (codes "c") ∷ (codes "receive") ∷ (codes "wait") ∷ [] ∷ [] ∷ [] ∷ []) ∷
+    ((codes "1060") ∷ (codes "q") ∷ (codes "q") ∷ (codes "release") ∷ (codes "visible") ∷ (codes "m-0-0") ∷ [] ∷ [] ∷ []) ∷
+    ((codes "1060") ∷ (codes "q") ∷ (codes "c") ∷ (codes "receive") ∷ (codes "ok") ∷ (codes "m-0-0") ∷ (codes "r-0-0-2") ∷ (codes "o-0-0") ∷ []) ∷
+    ((codes "1061") ∷ (codes "q") ∷ (codes "q") ∷ (codes "release") ∷ (codes "visible") ∷ (codes "m-0-1") ∷ [] ∷ [] ∷ []) ∷
+    ((codes "1062") ∷ (codes "q") ∷ (codes "q") ∷ (codes "release") ∷ (codes "visible") ∷ (codes "m-0-2") ∷ [] ∷ [] ∷ []) ∷
+    ((codes "1180") ∷ (codes "q") ∷ (codes "c") ∷ (codes "delete") ∷ (codes "deleted") ∷ (codes "m-0-0") ∷ (codes "r-0-0-2") ∷ (codes "1180") ∷ []) ∷
+    ((codes "1181") ∷ (codes "q") ∷ (codes "c") ∷ (codes "receive") ∷ (codes "ok") ∷ (codes "m-0-1") ∷ (codes "r-0-1-2") ∷ (codes "o-0-1") ∷ []) ∷
+    ((codes "1181") ∷ (codes "q") ∷ (codes "c") ∷ (codes "receive") ∷ (codes "ok") ∷ (codes "m-0-2") ∷ (codes "r-0-2-2") ∷ (codes "o-0-2") ∷ []) ∷
+    ((codes "1231") ∷ (codes "q") ∷ (codes "c") ∷ (codes "fail") ∷ (codes "ok") ∷ (codes "m-0-1") ∷ (codes "r-0-1-2") ∷ [] ∷ []) ∷
+    ((codes "1231") ∷ (codes "q") ∷ (codes "c") ∷ (codes "change") ∷ (codes "ok") ∷ (codes "m-0-1") ∷ (codes "r-0-1-2") ∷ (codes "1") ∷ []) ∷
+    ((codes "1232") ∷ (codes "q") ∷ (codes "c") ∷ (codes "change") ∷ (codes "ok") ∷ (codes "m-0-2") ∷ (codes "r-0-2-2") ∷ (codes "1") ∷ []) ∷
+    ((codes "1233") ∷ (codes "q") ∷ (codes "c") ∷ (codes "receive") ∷ (codes "wait") ∷ [] ∷ [] ∷ [] ∷ []) ∷
+    ((codes "final") ∷ (codes "queue") ∷ (codes "message") ∷ (codes "origin") ∷ (codes "place") ∷ (codes "due") ∷ (codes "enqueued") ∷ (codes "receives") ∷ (codes "group") ∷ (codes "md5") ∷ []) ∷
+    ((codes "final") ∷ (codes "q") ∷ (codes "m-0-1") ∷ (codes "o-0-1") ∷ (codes "inflight") ∷ (codes "2231") ∷ (codes "1") ∷ (codes "2") ∷ [] ∷ digest (codes "bad") ∷ []) ∷
+    ((codes "final") ∷ (codes "q") ∷ (codes "m-0-2") ∷ (codes "o-0-2") ∷ (codes "inflight") ∷ (codes "2232") ∷ (codes "2") ∷ (codes "2") ∷ [] ∷ digest (codes "c") ∷ []) ∷
+    ((codes "transfer") ∷ (codes "from") ∷ (codes "to") ∷ (codes "kind") ∷ (codes "due") ∷ (codes "number") ∷ (codes "message") ∷ (codes "origin") ∷ (codes "md5") ∷ []) ∷
+    ((codes "task") ∷ (codes "name") ∷ (codes "status") ∷ (codes "moved") ∷ []) ∷
+    ((codes "report") ∷ (codes "queue") ∷ (codes "sends") ∷ (codes "repeats") ∷ (codes "receives") ∷ (codes "empties") ∷ (codes "deletes") ∷ (codes "expiries") ∷ (codes "redrives") ∷ (codes "moves") ∷ (codes "arrivals") ∷ (codes "OverLimit") ∷ (codes "MessageNotInflight") ∷ (codes "ReceiptHandleIsInvalid") ∷ (codes "BadTimeout") ∷ (codes "MissingGroup") ∷ (codes "MissingDeduplication") ∷ (codes "BadDelay") ∷ (codes "TaskRunning") ∷ (codes "NoTask") ∷ (codes "depth_max") ∷ (codes "visible") ∷ (codes "in_flight") ∷ (codes "delayed") ∷ (codes "age_sum") ∷ (codes "age_max") ∷ (codes "age_p50") ∷ (codes "age_p95") ∷ (codes "age_p99") ∷ []) ∷
+    ((codes "report") ∷ (codes "q") ∷ (codes "3") ∷ (codes "0") ∷ (codes "6") ∷ (codes "0") ∷ (codes "1") ∷ (codes "0") ∷ (codes "0") ∷ (codes "0") ∷ (codes "0") ∷ (codes "0") ∷ (codes "0") ∷ (codes "0") ∷ (codes "0") ∷ (codes "0") ∷ (codes "0") ∷ (codes "0") ∷ (codes "0") ∷ (codes "0") ∷ (codes "3") ∷ (codes "0") ∷ (codes "2") ∷ (codes "0") ∷ (codes "1180") ∷ (codes "1180") ∷ (codes "1180") ∷ (codes "1180") ∷ (codes "1180") ∷ []) ∷ [])
+unfolding reading_on_literals running_on_literals columns_of
+case_0_failed_service_of_a_batch_at_once = refl
+
+-- version-3/failed_service_of_zero.toml
+case_0_failed_service_of_zero : shown_upto 3 27 [] (codes "# The service of m-0-0 fails. It takes no time, and ends 1 ms after its begin. The next service begins then.\nversion = 3\nhorizon = 1000\n[[queue]]\nname = \"q\"\n[[actor]]\nname = \"c\"\nkind = \"consumer\"\nqueue = \"q\"\nstart_ms = 10\nbatch = 2\nwait_s = 20\nservice_min_ms = 100\nservice_max_ms = 100\nfail_service_ms = 0\nfails_on = \"bad\"\n[[actor]]\nname = \"s\"\nkind = \"script\"\nqueue = \"q\"\ncalls = \"\"\"\nat,call,body,group,id,delay,receipt,max,wait,timeout,task\n0,send,bad,,,,,,,,\n1,send,a,,,,,,,,\n\"\"\"\n")
+    ≡ ran (((codes "at") ∷ (codes "queue") ∷ (codes "agent") ∷ (codes "call") ∷ (codes "answer") ∷ (codes "message") ∷ (codes "receipt") ∷ (codes "detail") ∷ []) ∷
+    ((codes "0") ∷ (codes "q") ∷ (codes "s") ∷ (codes "send") ∷ (codes "new") ∷ (codes "m-0-0") ∷ [] ∷ digest (codes "bad") ∷ []) ∷
+    ((codes "1") ∷ (codes "q") ∷ (codes "s") ∷ (codes "send") ∷ (codes "new") ∷ (codes "m-0-1") ∷ [] ∷ digest (codes "a") ∷ []) ∷
+    ((codes "10") ∷ (codes "q") ∷ (codes "c") ∷ (codes "receive") ∷ (codes "ok") ∷ (codes "m-0-0") ∷ (codes "r-0-0-1") ∷ (codes "o-0-0") ∷ []) ∷
+    ((codes "10") ∷ (codes "q") ∷ (codes "c") ∷ (codes "receive") ∷ (codes "ok") ∷ (codes "m-0-1") ∷ (codes "r-0-1-1") ∷ (codes "o-0-1") ∷ []) ∷
+    ((codes "11") ∷ (codes "q") ∷ (codes "c") ∷ (codes "fail") ∷ (codes "ok") ∷ (codes "m-0-0") ∷ (codes "r-0-0-1") ∷ [] ∷ []) ∷
+    ((codes "111") ∷ (codes "q") ∷ (codes "c") ∷ (codes "delete") ∷ (codes "deleted") ∷ (codes "m-0-1") ∷ (codes "r-0-1-1") ∷ (codes "110") ∷ []) ∷
+    ((codes "112") ∷ (codes "q") ∷ (codes "c") ∷ (codes "receive") ∷ (codes "wait") ∷ [] ∷ [] ∷ [] ∷ []) ∷
+    ((codes "final") ∷ (codes "queue") ∷ (codes "message") ∷ (codes "origin") ∷ (codes "place") ∷ (codes "due") ∷ (codes "enqueued") ∷ (codes "receives") ∷ (codes "group") ∷ (codes "md5") ∷ []) ∷
+    ((codes "final") ∷ (codes "q") ∷ (codes "m-0-0") ∷ (codes "o-0-0") ∷ (codes "inflight") ∷ (codes "30010") ∷ (codes "0") ∷ (codes "1") ∷ [] ∷ digest (codes "bad") ∷ []) ∷
+    ((codes "transfer") ∷ (codes "from") ∷ (codes "to") ∷ (codes "kind") ∷ (codes "due") ∷ (codes "number") ∷ (codes "message") ∷ (codes "origin") ∷ (codes "md5") ∷ []) ∷
+    ((codes "task") ∷ (codes "name") ∷ (codes "status") ∷ (codes "moved") ∷ []) ∷
+    ((codes "report") ∷ (codes "queue") ∷ (codes "sends") ∷ (codes "repeats") ∷ (codes "receives") ∷ (codes "empties") ∷ (codes "deletes") ∷ (codes "expiries") ∷ (codes "redrives") ∷ (codes "moves") ∷ (codes "arrivals") ∷ (codes "OverLimit") ∷ (codes "MessageNotInflight") ∷ (codes "ReceiptHandleIsInvalid") ∷ (codes "BadTimeout") ∷ (codes "MissingGroup") ∷ (codes "MissingDeduplication") ∷ (codes "BadDelay") ∷ (codes "TaskRunning") ∷ (codes "NoTask") ∷ (codes "depth_max") ∷ (codes "visible") ∷ (codes "in_flight") ∷ (codes "delayed") ∷ (codes "age_sum") ∷ (codes "age_max") ∷ (codes "age_p50") ∷ (codes "age_p95") ∷ (codes "age_p99") ∷ []) ∷
+    ((codes "report") ∷ (codes "q") ∷ (codes "2") ∷ (codes "0") ∷ (codes "2") ∷ (codes "0") ∷ (codes "1") ∷ (codes "0") ∷ (codes "0") ∷ (codes "0") ∷ (codes "0") ∷ (codes "0") ∷ (codes "0") ∷ (codes "0") ∷ (codes "0") ∷ (codes "0") ∷ (codes "0") ∷ (codes "0") ∷ (codes "0") ∷ (codes "0") ∷ (codes "2") ∷ (codes "0") ∷ (codes "1") ∷ (codes "0") ∷ (codes "110") ∷ (codes "110") ∷ (codes "110") ∷ (codes "110") ∷ (codes "110") ∷ []) ∷ [])
+unfolding reading_on_literals running_on_literals columns_of
+case_0_failed_service_of_zero = refl
+
+-- version-3/failed_service_takes_its_own_time.toml
+case_0_failed_service_takes_its_own_time : shown_upto 3 31 [] (codes "# The poison m-0-1 fails at the begin of its service, which takes 300 ms. The other services take 100 ms as ever.\nversion = 3\nhorizon = 1000\n[[queue]]\nname = \"q\"\n[[actor]]\nname = \"c\"\nkind = \"consumer\"\nqueue = \"q\"\nstart_ms = 10\nbatch = 3\nwait_s = 20\nservice_min_ms = 100\nservice_max_ms = 100\nfail_service_ms = 300\nfails_on = \"bad\"\nbackoff_s = [7]\n[[actor]]\nname = \"s\"\nkind = \"script\"\nqueue = \"q\"\ncalls = \"\"\"\nat,call,body,group,id,delay,receipt,max,wait,timeout,task\n0,send,a,,,,,,,,\n1,send,bad,,,,,,,,\n2,send,c,,,,,,,,\n\"\"\"\n")
+    ≡ ran (((codes "at") ∷ (codes "queue") ∷ (codes "agent") ∷ (codes "call") ∷ (codes "answer") ∷ (codes "message") ∷ (codes "receipt") ∷ (codes "detail") ∷ []) ∷
+    ((codes "0") ∷ (codes "q") ∷ (codes "s") ∷ (codes "send") ∷ (codes "new") ∷ (codes "m-0-0") ∷ [] ∷ digest (codes "a") ∷ []) ∷
+    ((codes "1") ∷ (codes "q") ∷ (codes "s") ∷ (codes "send") ∷ (codes "new") ∷ (codes "m-0-1") ∷ [] ∷ digest (codes "bad") ∷ []) ∷
+    ((codes "2") ∷ (codes "q") ∷ (codes "s") ∷ (codes "send") ∷ (codes "new") ∷ (codes "m-0-2") ∷ [] ∷ digest (codes "c") ∷ []) ∷
+    ((codes "10") ∷ (codes "q") ∷ (codes "c") ∷ (codes "receive") ∷ (codes "ok") ∷ (codes "m-0-0") ∷ (codes "r-0-0-1") ∷ (codes "o-0-0") ∷ []) ∷
+    ((codes "10") ∷ (codes "q") ∷ (codes "c") ∷ (codes "receive") ∷ (codes "ok") ∷ (codes "m-0-1") ∷ (codes "r-0-1-1") ∷ (codes "o-0-1") ∷ []) ∷
+    ((codes "10") ∷ (codes "q") ∷ (codes "c") ∷ (codes "receive") ∷ (codes "ok") ∷ (codes "m-0-2") ∷ (codes "r-0-2-1") ∷ (codes "o-0-2") ∷ []) ∷
+    ((codes "110") ∷ (codes "q") ∷ (codes "c") ∷ (codes "delete") ∷ (codes "deleted") ∷ (codes "m-0-0") ∷ (codes "r-0-0-1") ∷ (codes "110") ∷ []) ∷
+    ((codes "410") ∷ (codes "q") ∷ (codes "c") ∷ (codes "fail") ∷ (codes "ok") ∷ (codes "m-0-1") ∷ (codes "r-0-1-1") ∷ [] ∷ []) ∷
+    ((codes "410") ∷ (codes "q") ∷ (codes "c") ∷ (codes "change") ∷ (codes "ok") ∷ (codes "m-0-1") ∷ (codes "r-0-1-1") ∷ (codes "7") ∷ []) ∷
+    ((codes "510") ∷ (codes "q") ∷ (codes "c") ∷ (codes "delete") ∷ (codes "deleted") ∷ (codes "m-0-2") ∷ (codes "r-0-2-1") ∷ (codes "508") ∷ []) ∷
+    ((codes "511") ∷ (codes "q") ∷ (codes "c") ∷ (codes "receive") ∷ (codes "wait") ∷ [] ∷ [] ∷ [] ∷ []) ∷
+    ((codes "final") ∷ (codes "queue") ∷ (codes "message") ∷ (codes "origin") ∷ (codes "place") ∷ (codes "due") ∷ (codes "enqueued") ∷ (codes "receives") ∷ (codes "group") ∷ (codes "md5") ∷ []) ∷
+    ((codes "final") ∷ (codes "q") ∷ (codes "m-0-1") ∷ (codes "o-0-1") ∷ (codes "inflight") ∷ (codes "7410") ∷ (codes "1") ∷ (codes "1") ∷ [] ∷ digest (codes "bad") ∷ []) ∷
+    ((codes "transfer") ∷ (codes "from") ∷ (codes "to") ∷ (codes "kind") ∷ (codes "due") ∷ (codes "number") ∷ (codes "message") ∷ (codes "origin") ∷ (codes "md5") ∷ []) ∷
+    ((codes "task") ∷ (codes "name") ∷ (codes "status") ∷ (codes "moved") ∷ []) ∷
+    ((codes "report") ∷ (codes "queue") ∷ (codes "sends") ∷ (codes "repeats") ∷ (codes "receives") ∷ (codes "empties") ∷ (codes "deletes") ∷ (codes "expiries") ∷ (codes "redrives") ∷ (codes "moves") ∷ (codes "arrivals") ∷ (codes "OverLimit") ∷ (codes "MessageNotInflight") ∷ (codes "ReceiptHandleIsInvalid") ∷ (codes "BadTimeout") ∷ (codes "MissingGroup") ∷ (codes "MissingDeduplication") ∷ (codes "BadDelay") ∷ (codes "TaskRunning") ∷ (codes "NoTask") ∷ (codes "depth_max") ∷ (codes "visible") ∷ (codes "in_flight") ∷ (codes "delayed") ∷ (codes "age_sum") ∷ (codes "age_max") ∷ (codes "age_p50") ∷ (codes "age_p95") ∷ (codes "age_p99") ∷ []) ∷
+    ((codes "report") ∷ (codes "q") ∷ (codes "3") ∷ (codes "0") ∷ (codes "3") ∷ (codes "0") ∷ (codes "2") ∷ (codes "0") ∷ (codes "0") ∷ (codes "0") ∷ (codes "0") ∷ (codes "0") ∷ (codes "0") ∷ (codes "0") ∷ (codes "0") ∷ (codes "0") ∷ (codes "0") ∷ (codes "0") ∷ (codes "0") ∷ (codes "0") ∷ (codes "3") ∷ (codes "0") ∷ (codes "1") ∷ (codes "0") ∷ (codes "618") ∷ (codes "508") ∷ (codes "110") ∷ (codes "508") ∷ (codes "508") ∷ []) ∷ [])
+unfolding reading_on_literals running_on_literals columns_of
+case_0_failed_service_takes_its_own_time = refl
+
+-- version-3/failed_service_with_heartbeats.toml
+case_0_failed_service_with_heartbeats : shown_upto 3 31 [] (codes "# The service of m-0-0 fails, and takes 2500 ms. Its heartbeats of 1010 and 2010 prolong the timeout to 3010 and 4010.\n# At 2510 it ends. Then m-0-1 is served in 100 ms. At 4010 m-0-0 comes back, and fails once more, until 6510.\nversion = 3\nhorizon = 4500\n[[queue]]\nname = \"q\"\nvisibility_s = 2\n[[actor]]\nname = \"c\"\nkind = \"consumer\"\nqueue = \"q\"\nstart_ms = 10\nwait_s = 20\nservice_min_ms = 100\nservice_max_ms = 100\nfail_service_ms = 2500\nfails_on = \"bad\"\nheartbeat_s = 1\n[[actor]]\nname = \"s\"\nkind = \"script\"\nqueue = \"q\"\ncalls = \"\"\"\nat,call,body,group,id,delay,receipt,max,wait,timeout,task\n0,send,bad,,,,,,,,\n5,send,a,,,,,,,,\n\"\"\"\n")
+    ≡ ran (((codes "at") ∷ (codes "queue") ∷ (codes "agent") ∷ (codes "call") ∷ (codes "answer") ∷ (codes "message") ∷ (codes "receipt") ∷ (codes "detail") ∷ []) ∷
+    ((codes "0") ∷ (codes "q") ∷ (codes "s") ∷ (codes "send") ∷ (codes "new") ∷ (codes "m-0-0") ∷ [] ∷ digest (codes "bad") ∷ []) ∷
+    ((codes "5") ∷ (codes "q") ∷ (codes "s") ∷ (codes "send") ∷ (codes "new") ∷ (codes "m-0-1") ∷ [] ∷ digest (codes "a") ∷ []) ∷
+    ((codes "10") ∷ (codes "q") ∷ (codes "c") ∷ (codes "receive") ∷ (codes "ok") ∷ (codes "m-0-0") ∷ (codes "r-0-0-1") ∷ (codes "o-0-0") ∷ []) ∷
+    ((codes "1010") ∷ (codes "q") ∷ (codes "c") ∷ (codes "change") ∷ (codes "ok") ∷ (codes "m-0-0") ∷ (codes "r-0-0-1") ∷ (codes "2") ∷ []) ∷
+    ((codes "2010") ∷ (codes "q") ∷ (codes "c") ∷ (codes "change") ∷ (codes "ok") ∷ (codes "m-0-0") ∷ (codes "r-0-0-1") ∷ (codes "2") ∷ []) ∷
+    ((codes "2510") ∷ (codes "q") ∷ (codes "c") ∷ (codes "fail") ∷ (codes "ok") ∷ (codes "m-0-0") ∷ (codes "r-0-0-1") ∷ [] ∷ []) ∷
+    ((codes "2511") ∷ (codes "q") ∷ (codes "c") ∷ (codes "receive") ∷ (codes "ok") ∷ (codes "m-0-1") ∷ (codes "r-0-1-1") ∷ (codes "o-0-1") ∷ []) ∷
+    ((codes "2611") ∷ (codes "q") ∷ (codes "c") ∷ (codes "delete") ∷ (codes "deleted") ∷ (codes "m-0-1") ∷ (codes "r-0-1-1") ∷ (codes "2606") ∷ []) ∷
+    ((codes "2612") ∷ (codes "q") ∷ (codes "c") ∷ (codes "receive") ∷ (codes "wait") ∷ [] ∷ [] ∷ [] ∷ []) ∷
+    ((codes "4010") ∷ (codes "q") ∷ (codes "q") ∷ (codes "release") ∷ (codes "visible") ∷ (codes "m-0-0") ∷ [] ∷ [] ∷ []) ∷
+    ((codes "4010") ∷ (codes "q") ∷ (codes "c") ∷ (codes "receive") ∷ (codes "ok") ∷ (codes "m-0-0") ∷ (codes "r-0-0-2") ∷ (codes "o-0-0") ∷ []) ∷
+    ((codes "final") ∷ (codes "queue") ∷ (codes "message") ∷ (codes "origin") ∷ (codes "place") ∷ (codes "due") ∷ (codes "enqueued") ∷ (codes "receives") ∷ (codes "group") ∷ (codes "md5") ∷ []) ∷
+    ((codes "final") ∷ (codes "q") ∷ (codes "m-0-0") ∷ (codes "o-0-0") ∷ (codes "inflight") ∷ (codes "6010") ∷ (codes "0") ∷ (codes "2") ∷ [] ∷ digest (codes "bad") ∷ []) ∷
+    ((codes "transfer") ∷ (codes "from") ∷ (codes "to") ∷ (codes "kind") ∷ (codes "due") ∷ (codes "number") ∷ (codes "message") ∷ (codes "origin") ∷ (codes "md5") ∷ []) ∷
+    ((codes "task") ∷ (codes "name") ∷ (codes "status") ∷ (codes "moved") ∷ []) ∷
+    ((codes "report") ∷ (codes "queue") ∷ (codes "sends") ∷ (codes "repeats") ∷ (codes "receives") ∷ (codes "empties") ∷ (codes "deletes") ∷ (codes "expiries") ∷ (codes "redrives") ∷ (codes "moves") ∷ (codes "arrivals") ∷ (codes "OverLimit") ∷ (codes "MessageNotInflight") ∷ (codes "ReceiptHandleIsInvalid") ∷ (codes "BadTimeout") ∷ (codes "MissingGroup") ∷ (codes "MissingDeduplication") ∷ (codes "BadDelay") ∷ (codes "TaskRunning") ∷ (codes "NoTask") ∷ (codes "depth_max") ∷ (codes "visible") ∷ (codes "in_flight") ∷ (codes "delayed") ∷ (codes "age_sum") ∷ (codes "age_max") ∷ (codes "age_p50") ∷ (codes "age_p95") ∷ (codes "age_p99") ∷ []) ∷
+    ((codes "report") ∷ (codes "q") ∷ (codes "2") ∷ (codes "0") ∷ (codes "3") ∷ (codes "0") ∷ (codes "1") ∷ (codes "0") ∷ (codes "0") ∷ (codes "0") ∷ (codes "0") ∷ (codes "0") ∷ (codes "0") ∷ (codes "0") ∷ (codes "0") ∷ (codes "0") ∷ (codes "0") ∷ (codes "0") ∷ (codes "0") ∷ (codes "0") ∷ (codes "2") ∷ (codes "0") ∷ (codes "1") ∷ (codes "0") ∷ (codes "2606") ∷ (codes "2606") ∷ (codes "2606") ∷ (codes "2606") ∷ (codes "2606") ∷ []) ∷ [])
+unfolding reading_on_literals running_on_literals columns_of
+case_0_failed_service_with_heartbeats = refl
+
 -- version-3/fails_on_a_text.toml
 case_0_fails_on_a_text : shown_upto 3 27 [] (codes "# Words of agent 1: 839.344 (first service: 100 + 839 = 939, so it ends at 949), 982.301 (its chance, which is taken\n# although the body decides), 739.102 (second service: 100 + 739 = 839, from 949 to 1788). Only m-0-0 has \"bad\" in it.\nversion = 3\nhorizon = 3000\n[[queue]]\nname = \"q\"\n[[actor]]\nname = \"c\"\nkind = \"consumer\"\nqueue = \"q\"\nstart_ms = 10\nbatch = 2\nwait_s = 20\nservice_min_ms = 100\nservice_max_ms = 1099\nfails_on = \"bad\"\n[[actor]]\nname = \"s\"\nkind = \"script\"\nqueue = \"q\"\ncalls = \"\"\"\nat,call,body,group,id,delay,receipt,max,wait,timeout,task\n0,send,a bad one,,,,,,,,\n1,send,b,,,,,,,,\n\"\"\"\n")
     ≡ ran (((codes "at") ∷ (codes "queue") ∷ (codes "agent") ∷ (codes "call") ∷ (codes "answer") ∷ (codes "message") ∷ (codes "receipt") ∷ (codes "detail") ∷ []) ∷
@@ -295,6 +486,39 @@ case_0_gathers_and_finds_nothing : shown_upto 3 27 [] (codes "# It gathers until
     ((codes "report") ∷ (codes "q") ∷ (codes "1") ∷ (codes "0") ∷ (codes "1") ∷ (codes "2") ∷ (codes "1") ∷ (codes "0") ∷ (codes "0") ∷ (codes "0") ∷ (codes "0") ∷ (codes "0") ∷ (codes "0") ∷ (codes "0") ∷ (codes "0") ∷ (codes "0") ∷ (codes "0") ∷ (codes "0") ∷ (codes "0") ∷ (codes "0") ∷ (codes "1") ∷ (codes "0") ∷ (codes "0") ∷ (codes "0") ∷ (codes "3105") ∷ (codes "3105") ∷ (codes "3105") ∷ (codes "3105") ∷ (codes "3105") ∷ []) ∷ [])
 unfolding reading_on_literals running_on_literals columns_of
 case_0_gathers_and_finds_nothing = refl
+
+-- version-3/gathers_apart_where_two_polls_wait.toml
+case_0_gathers_apart_where_two_polls_wait : shown_upto 3 40 [] (codes "# The batch of c-1 fails at 110. At 1010 its messages come back one by one. The poll of c-2 waits since 10 and gets\n# m-0-0, that of c-1 since 111 and gets m-0-1. At 1011 c-1 asks first and gets m-0-2; nothing is left for c-2.\nversion = 3\nhorizon = 1200\n[[queue]]\nname = \"q\"\nvisibility_s = 1\n[[actor]]\nname = \"c\"\nkind = \"consumer\"\nqueue = \"q\"\nstart_ms = 10\nbatch = 3\ngather_ms = 1\nwait_s = 20\nservice_min_ms = 100\nservice_max_ms = 100\nbatch_service = \"once\"\nfails_on = \"bad\"\nbatch_fails = \"whole\"\ncopies = 2\n[[actor]]\nname = \"s\"\nkind = \"script\"\nqueue = \"q\"\ncalls = \"\"\"\nat,call,body,group,id,delay,receipt,max,wait,timeout,task\n0,send,a,,,,,,,,\n1,send,bad,,,,,,,,\n2,send,c,,,,,,,,\n\"\"\"\n")
+    ≡ ran (((codes "at") ∷ (codes "queue") ∷ (codes "agent") ∷ (codes "call") ∷ (codes "answer") ∷ (codes "message") ∷ (codes "receipt") ∷ (codes "detail") ∷ []) ∷
+    ((codes "0") ∷ (codes "q") ∷ (codes "s") ∷ (codes "send") ∷ (codes "new") ∷ (codes "m-0-0") ∷ [] ∷ digest (codes "a") ∷ []) ∷
+    ((codes "1") ∷ (codes "q") ∷ (codes "s") ∷ (codes "send") ∷ (codes "new") ∷ (codes "m-0-1") ∷ [] ∷ digest (codes "bad") ∷ []) ∷
+    ((codes "2") ∷ (codes "q") ∷ (codes "s") ∷ (codes "send") ∷ (codes "new") ∷ (codes "m-0-2") ∷ [] ∷ digest (codes "c") ∷ []) ∷
+    ((codes "10") ∷ (codes "q") ∷ (codes "c-1") ∷ (codes "receive") ∷ (codes "ok") ∷ (codes "m-0-0") ∷ (codes "r-0-0-1") ∷ (codes "o-0-0") ∷ []) ∷
+    ((codes "10") ∷ (codes "q") ∷ (codes "c-1") ∷ (codes "receive") ∷ (codes "ok") ∷ (codes "m-0-1") ∷ (codes "r-0-1-1") ∷ (codes "o-0-1") ∷ []) ∷
+    ((codes "10") ∷ (codes "q") ∷ (codes "c-1") ∷ (codes "receive") ∷ (codes "ok") ∷ (codes "m-0-2") ∷ (codes "r-0-2-1") ∷ (codes "o-0-2") ∷ []) ∷
+    ((codes "10") ∷ (codes "q") ∷ (codes "c-2") ∷ (codes "receive") ∷ (codes "wait") ∷ [] ∷ [] ∷ [] ∷ []) ∷
+    ((codes "110") ∷ (codes "q") ∷ (codes "c-1") ∷ (codes "fail") ∷ (codes "ok") ∷ (codes "m-0-0") ∷ (codes "r-0-0-1") ∷ [] ∷ []) ∷
+    ((codes "111") ∷ (codes "q") ∷ (codes "c-1") ∷ (codes "receive") ∷ (codes "wait") ∷ [] ∷ [] ∷ [] ∷ []) ∷
+    ((codes "1010") ∷ (codes "q") ∷ (codes "q") ∷ (codes "release") ∷ (codes "visible") ∷ (codes "m-0-0") ∷ [] ∷ [] ∷ []) ∷
+    ((codes "1010") ∷ (codes "q") ∷ (codes "c-2") ∷ (codes "receive") ∷ (codes "ok") ∷ (codes "m-0-0") ∷ (codes "r-0-0-2") ∷ (codes "o-0-0") ∷ []) ∷
+    ((codes "1010") ∷ (codes "q") ∷ (codes "q") ∷ (codes "release") ∷ (codes "visible") ∷ (codes "m-0-1") ∷ [] ∷ [] ∷ []) ∷
+    ((codes "1010") ∷ (codes "q") ∷ (codes "c-1") ∷ (codes "receive") ∷ (codes "ok") ∷ (codes "m-0-1") ∷ (codes "r-0-1-2") ∷ (codes "o-0-1") ∷ []) ∷
+    ((codes "1010") ∷ (codes "q") ∷ (codes "q") ∷ (codes "release") ∷ (codes "visible") ∷ (codes "m-0-2") ∷ [] ∷ [] ∷ []) ∷
+    ((codes "1011") ∷ (codes "q") ∷ (codes "c-1") ∷ (codes "receive") ∷ (codes "ok") ∷ (codes "m-0-2") ∷ (codes "r-0-2-2") ∷ (codes "o-0-2") ∷ []) ∷
+    ((codes "1011") ∷ (codes "q") ∷ (codes "c-2") ∷ (codes "receive") ∷ (codes "empty") ∷ [] ∷ [] ∷ [] ∷ []) ∷
+    ((codes "1111") ∷ (codes "q") ∷ (codes "c-1") ∷ (codes "fail") ∷ (codes "ok") ∷ (codes "m-0-1") ∷ (codes "r-0-1-2") ∷ [] ∷ []) ∷
+    ((codes "1111") ∷ (codes "q") ∷ (codes "c-2") ∷ (codes "delete") ∷ (codes "deleted") ∷ (codes "m-0-0") ∷ (codes "r-0-0-2") ∷ (codes "1111") ∷ []) ∷
+    ((codes "1112") ∷ (codes "q") ∷ (codes "c-1") ∷ (codes "receive") ∷ (codes "wait") ∷ [] ∷ [] ∷ [] ∷ []) ∷
+    ((codes "1112") ∷ (codes "q") ∷ (codes "c-2") ∷ (codes "receive") ∷ (codes "wait") ∷ [] ∷ [] ∷ [] ∷ []) ∷
+    ((codes "final") ∷ (codes "queue") ∷ (codes "message") ∷ (codes "origin") ∷ (codes "place") ∷ (codes "due") ∷ (codes "enqueued") ∷ (codes "receives") ∷ (codes "group") ∷ (codes "md5") ∷ []) ∷
+    ((codes "final") ∷ (codes "q") ∷ (codes "m-0-1") ∷ (codes "o-0-1") ∷ (codes "inflight") ∷ (codes "2010") ∷ (codes "1") ∷ (codes "2") ∷ [] ∷ digest (codes "bad") ∷ []) ∷
+    ((codes "final") ∷ (codes "q") ∷ (codes "m-0-2") ∷ (codes "o-0-2") ∷ (codes "inflight") ∷ (codes "2011") ∷ (codes "2") ∷ (codes "2") ∷ [] ∷ digest (codes "c") ∷ []) ∷
+    ((codes "transfer") ∷ (codes "from") ∷ (codes "to") ∷ (codes "kind") ∷ (codes "due") ∷ (codes "number") ∷ (codes "message") ∷ (codes "origin") ∷ (codes "md5") ∷ []) ∷
+    ((codes "task") ∷ (codes "name") ∷ (codes "status") ∷ (codes "moved") ∷ []) ∷
+    ((codes "report") ∷ (codes "queue") ∷ (codes "sends") ∷ (codes "repeats") ∷ (codes "receives") ∷ (codes "empties") ∷ (codes "deletes") ∷ (codes "expiries") ∷ (codes "redrives") ∷ (codes "moves") ∷ (codes "arrivals") ∷ (codes "OverLimit") ∷ (codes "MessageNotInflight") ∷ (codes "ReceiptHandleIsInvalid") ∷ (codes "BadTimeout") ∷ (codes "MissingGroup") ∷ (codes "MissingDeduplication") ∷ (codes "BadDelay") ∷ (codes "TaskRunning") ∷ (codes "NoTask") ∷ (codes "depth_max") ∷ (codes "visible") ∷ (codes "in_flight") ∷ (codes "delayed") ∷ (codes "age_sum") ∷ (codes "age_max") ∷ (codes "age_p50") ∷ (codes "age_p95") ∷ (codes "age_p99") ∷ []) ∷
+    ((codes "report") ∷ (codes "q") ∷ (codes "3") ∷ (codes "0") ∷ (codes "6") ∷ (codes "1") ∷ (codes "1") ∷ (codes "0") ∷ (codes "0") ∷ (codes "0") ∷ (codes "0") ∷ (codes "0") ∷ (codes "0") ∷ (codes "0") ∷ (codes "0") ∷ (codes "0") ∷ (codes "0") ∷ (codes "0") ∷ (codes "0") ∷ (codes "0") ∷ (codes "3") ∷ (codes "0") ∷ (codes "2") ∷ (codes "0") ∷ (codes "1111") ∷ (codes "1111") ∷ (codes "1111") ∷ (codes "1111") ∷ (codes "1111") ∷ []) ∷ [])
+unfolding reading_on_literals running_on_literals columns_of
+case_0_gathers_apart_where_two_polls_wait = refl
 
 -- version-3/gathers_by_a_long_poll.toml
 case_0_gathers_by_a_long_poll : shown_upto 3 28 [] (codes "# It gathers until 3010. At 11 two whole seconds are left, so it waits until 2011. The message that comes at 1500 makes\n# the batch whole.\nversion = 3\nhorizon = 1800\n[[queue]]\nname = \"q\"\n[[actor]]\nname = \"c\"\nkind = \"consumer\"\nqueue = \"q\"\nstart_ms = 10\nbatch = 2\ngather_ms = 3000\nwait_s = 20\nservice_min_ms = 100\nservice_max_ms = 100\n[[actor]]\nname = \"s\"\nkind = \"script\"\nqueue = \"q\"\ncalls = \"\"\"\nat,call,body,group,id,delay,receipt,max,wait,timeout,task\n5,send,a,,,,,,,,\n1500,send,b,,,,,,,,\n\"\"\"\n")
