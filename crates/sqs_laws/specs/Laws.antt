@@ -114,8 +114,8 @@ pub record Origins (rows : List Row) : Type 0 where
   pub told : EachNaming rows (λ before r m. IsTrue (received r)
       → (o : Origin) × (origin_of m before ≡ Some o) × (r.detail ≡ details.From o))
 
--- Ages. Of a message that was sent to its queue a delete or an expiry tells how long ago that was. It expires exactly at the
--- end of the queue's retention period.
+-- Ages. Of a message that was sent to its queue a delete or an expiry tells how long ago that was. It expires exactly
+-- at the end of the queue's retention period.
 pub record Ages (s : Scenario) (rows : List Row) : Type 0 where
   pub told : EachNaming rows (λ before r m. IsTrue (is_deleted r.answer || is_expired r.answer)
       → (sent : ℕ) → sent_at m before ≡ Some sent → r.detail ≡ details.Age (r.key.at - sent))
@@ -138,17 +138,17 @@ pub record KeepsTheRules (s : Scenario) (rows : List Row) : Type 0 where
   pub ages : Ages s rows
   pub in_time : InTime s rows
 
--- What is left. The final queues have just the messages that came to a queue and have not left it, queue by queue in the
--- order of their numbers. One of them is in flight just if the rows say so. It was received as often as they say, and has
--- the origin that they tell.
+-- What is left. The final queues have just the messages that came to a queue and have not left it, queue by queue in
+-- the order of their numbers. One of them is in flight just if the rows say so. It was received as often as they say,
+-- and has the origin that they tell.
 pub record WhatIsLeft (s : Scenario) (rows : List Row) (left : List FinalMessage) : Type 0 where
   pub messages : map (λ m. m.id) left ≡ flat_map (λ n. that_stay n rows) (range_with_len 0 (length s.queues))
   pub in_flight : All (λ m. is_in_flight m.place ≡ flying m.id rows) left
   pub received : All (λ m. m.receives ≡ times m.id rows) left
   pub origins : All (λ m. origin_of m.id rows ≡ Some m.origin) left
 
--- Journeys. As many messages were sent on to a queue as arrived there and are still under way. By any moment no more had
--- arrived there than were sent on at least the least latency of the scenario before it.
+-- Journeys. As many messages were sent on to a queue as arrived there and are still under way. By any moment no more
+-- had arrived there than were sent on at least the least latency of the scenario before it.
 pub record Journeys (s : Scenario) (rows : List Row) (under_way : List FinalTransfer) : Type 0 where
   pub all : (n : ℕ) → n < length s.queues
       → count_by (goes_to n) rows ≡ count_by (arrives_at n) rows + count_by (λ t. t.to == n) under_way

@@ -16,9 +16,11 @@ LogKeepsTheRules =
 -- and it says what is left at the end
 abbrev pub LogSaysWhatIsLeft : Type 0
 LogSaysWhatIsLeft =
-    (s : Scenario) → All IsQueueSettings s.queues → (r : Run) → IsRunOf s r → WhatIsLeft s r.rows (finals_of r.sites).messages
+    (s : Scenario) → All IsQueueSettings s.queues
+    → (r : Run) → IsRunOf s r → WhatIsLeft s r.rows (finals_of r.sites).messages
 
 -- and it tells each journey of a message from queue to queue
 abbrev pub LogTellsJourneys : Type 0
 LogTellsJourneys =
-    (s : Scenario) → IsSoundScenario s → (r : Run) → IsRunOf s r → Journeys s r.rows (finals_of r.sites).transfers
+    (s : Scenario) → IsSoundScenario s
+    → (r : Run) → IsRunOf s r → Journeys s r.rows (finals_of r.sites).transfers

@@ -38,4 +38,5 @@ left_at among r = filter (λ m. among m.id.site) (finals_of r.sites).messages
 abbrev pub ChangesStayInReach : Type 0
 ChangesStayInReach =
     (among : ℕ → Bool) (s t : Scenario) → IsSoundScenario s → IsSoundScenario t → DifferOutOfReach among s t
-    → (r x : Run) → IsRunOf s r → IsRunOf t x → (rows_at among r ≡ rows_at among x) × (left_at among r ≡ left_at among x)
+    → (r x : Run) → IsRunOf s r → IsRunOf t x
+    → (rows_at among r ≡ rows_at among x) × (left_at among r ≡ left_at among x)
