@@ -95,8 +95,10 @@ def rows_of(output: bytes) -> Log:
 def ending_in(output: bytes) -> Ending:
     """What is left and what is under way in all that `run` prints."""
     lines = list(csv.reader(io.StringIO(output.decode(), newline="")))
-    left = [Left(line[1], line[2], line[3], line[4], int(line[7])) for line in lines if line[0] == "final" and line[1:2] != ["queue"]]
-    return Ending(left, [line[2] for line in lines if line[0] == "transfer" and line[1:2] != ["from"]])
+    left = [line for line in lines if line[0] == "final"][1:]
+    under_way = [line for line in lines if line[0] == "transfer"][1:]
+    return Ending([Left(line[1], line[2], line[3], line[4], int(line[7])) for line in left],
+                  [line[2] for line in under_way])
 
 
 # ---- settings ----
