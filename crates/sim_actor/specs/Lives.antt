@@ -99,6 +99,12 @@ Becomes (Ok u) new model = model ≡ new
 Becomes (Err refusals.CountLimit) new model = most_count < greatest_count model
 Becomes (Err e) new model = ⊥
 
+-- whether a service fails, and the draws after that, are the definition's
+abbrev pub Drawn : Result Bool Refusal → Draws → Bool × Draws → Type 0
+Drawn (Ok failed) new model = model ≡ (failed, new)
+Drawn (Err refusals.CountLimit) new model = most_count < model.1.taken
+Drawn (Err e) new model = ⊥
+
 -- the same of a decision that may also want memory: it then counts past no limit, and the actor is as it was
 abbrev pub Meets : Result Act Refusal → Actor → Actor → Act × Actor → Type 0
 Meets (Ok act) old new model = model ≡ (act, new)

@@ -34,7 +34,7 @@ sized least most place d ds e =
     rw (← high.1) within
 
 -- what holds of no items, and goes on to hold with each item that is read, holds of all
-items_hold : {X : Type 0} (P : List X → Type 0) (type : List X → KeyType X) → ((xs : List X) (place : List ℕ) (d : Data) (x : X) → P xs → type xs place d ≡ Ok x → P (xs ++ (x ∷ [])))
+pub items_hold : {X : Type 0} (P : List X → Type 0) (type : List X → KeyType X) → ((xs : List X) (place : List ℕ) (d : Data) (x : X) → P xs → type xs place d ≡ Ok x → P (xs ++ (x ∷ [])))
     → (place : List ℕ) (xs : List X) (ds : List Data) (ys : List X) → P xs → items type place xs ds ≡ Ok ys → P ys × (length ys ≡ length xs + length ds)
 items_hold P type h place xs [] ys p e = rw (← same_ok _ _ e) (p, omega arith)
 items_hold P type h place xs (d ∷ ds) ys p e =

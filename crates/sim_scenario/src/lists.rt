@@ -64,7 +64,7 @@ fn sized_list<'v>(
 }
 
 /// Reads all items of the list at a key.
-fn items<T: ListItem>(
+pub(crate) fn items<T: ListItem>(
     section: &Section<'_>,
     values: &[Value],
     key: &str,

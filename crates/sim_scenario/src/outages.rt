@@ -1,13 +1,14 @@
 //! The outages of a consumer in a scenario's text: a list of stretches of time, or one.
 ghost use Rattle.std.specs.Prelude.{◌≡◌, [], ◌∷◌, map, IfOk};
-ghost use Rattle.sqs_formats.specs.Outages.{one_stretch as the_one_stretch, outage_keys, outages as the_outages, outages_in, stretches_by as the_stretches_by};
+ghost use Rattle.sqs_formats.specs.Outages.{one_each as the_one_each, one_for_all as the_one_for_all, one_stretch as the_one_stretch, outage_keys, outages as the_outages, outages_in, permille_at as the_permille_at, stretches_by as the_stretches_by};
 ghost use Rattle.sim_scenario.specs.Gives.{Gives};
-ghost use Rattle.sim_scenario.specs.Sections.{table_of};
+ghost use Rattle.sim_scenario.specs.Sections.{GivesAt, table_of};
 
 use crate::fault::ReadError;
 use crate::key_type::{Integer, KeyType};
-use crate::lists::{ListItem, list_of, pair};
+use crate::lists::{ListItem, items, list_of, no_integers, pair};
 use crate::section::Section;
+use sim_clock::Refusal;
 use sqs_message::Listed;
 use sqs_model::{Outage, Stretch};
 use std::alloc::{AllocError, Global};
@@ -104,32 +105,103 @@ fn stretches_by(
     Ok(Listed::new(stretches))
 }
 
-/// Outages in these stretches of time, each with the same chance of failure.
+/// Of 1,000 services how many fail in each of so many outages, by a list of as many numbers.
+#[tactic(auto, unfolding(sqs_formats::specs::Outages::one_each, sqs_formats::specs::Reading::and_then))]
+fn one_each(
+    section: &Section<'_>,
+    value: &Value,
+    key: &str,
+    outages: usize,
+) -> Result<Vec<u64>, ReadError>
+    ensures { GivesAt (λ v. v.items) result section.now key.now value.now
+        (the_one_each outages) }
+{
+    let values = section.items(value, key)?;
+    if values.len() != outages {
+        return Err(section.blame(Refusal::OutOfRange, key));
+    }
+    items(section, values, key, &Integer(0, 1000))
+}
+
+/// The same by one number for all.
+#[tactic(auto, unfolding(sqs_formats::specs::Outages::one_for_all, sqs_formats::specs::Reading::and_then))]
+fn one_for_all(section: &Section<'_>, value: &Value, key: &str) -> Result<Vec<u64>, ReadError>
+    ensures { GivesAt (λ v. v.items) result section.now key.now value.now the_one_for_all }
+{
+    let permille = Integer(0, 1000).read(section, value, key)?;
+    let mut permilles = Vec::new(section.alloc);
+    permilles.push(permille)?;
+    Ok(permilles)
+}
+
+/// Of 1,000 services how many fail in each of some outages: one number for all, or a list with one
+/// for each. There may be a list only if the outages are one.
+#[derive(Drop)]
+struct Permilles {
+    listed: bool,
+    outages: usize,
+}
+
+impl KeyType for Permilles {
+    type Value = Listed<u64>;
+
+    ghost use Rattle.sqs_formats.specs.Outages.{permilles};
+
+    ghost says = { λ k. permilles k.listed k.outages };
+
+    #[tactic(auto, unfolding(sqs_formats::specs::Outages::permilles))]
+    fn read(
+        &self,
+        section: &Section<'_>,
+        value: &Value,
+        key: &str,
+    ) -> Result<Listed<u64>, ReadError> {
+        let permilles = if self.listed && value.as_array().is_some() {
+            one_each(section, value, key, self.outages)?
+        } else {
+            one_for_all(section, value, key)?
+        };
+        Ok(Listed::new(permilles))
+    }
+}
+
+/// The chance of the outage at a place of their list: its own, or that of all.
+fn permille_at(permilles: &[u64], place: usize) -> u64
+    ensures { result ≡ the_permille_at permilles.now place }
+{
+    let of_all = permilles.first().copied().unwrap_or(1000);
+    permilles.get(place).copied().unwrap_or(of_all)
+}
+
+/// Outages in these stretches of time with their chances.
 fn outages_in(
     alloc: Global,
-    permille: u64,
+    permilles: &[u64],
     stretches: &[Stretch],
 ) -> Result<Vec<Outage>, AllocError>
-    ensures { IfOk result (λ v. v.items ≡ outages_in permille stretches.now) }
+    ensures { IfOk result (λ v. v.items ≡ outages_in permilles.now stretches.now) }
 {
     let mut outages = Vec::with_capacity(alloc, stretches.len())?;
-    for stretch in stretches {
+    for (place, stretch) in stretches.iter().enumerate() {
         outages.push(Outage {
             stretch: *stretch,
-            permille,
+            permille: permille_at(permilles, place),
         })?;
     }
     Ok(outages)
 }
 
-/// The outages of a consumer. All services that end in them fail if the text does not say how many.
+/// The outages of a consumer.
 #[tactic(auto, unfolding(sqs_formats::specs::Outages::outages, sqs_formats::specs::Reading::and_then))]
 pub(crate) fn outages(section: &Section<'_>) -> Result<Listed<Outage>, ReadError>
     ensures { Gives (λ o. o) result (the_outages (table_of section.now)) }
 {
-    let has_list = section.has("fails_between_ms");
-    let stretches = stretches_by(has_list, section.has("fails_from_ms"), section)?;
-    let permille = section.optional("fails_permille", &Integer(0, 1000), 1000)?;
-    let outages = outages_in(section.alloc, permille, stretches.as_slice())?;
+    let listed = section.has("fails_between_ms");
+    let stretches = stretches_by(listed, section.has("fails_from_ms"), section)?;
+    let outages = stretches.as_slice().len();
+    let type_of = Permilles { listed, outages };
+    let none = no_integers(section.alloc);
+    let permilles = section.optional("fails_permille", &type_of, none)?;
+    let outages = outages_in(section.alloc, permilles.as_slice(), stretches.as_slice())?;
     Ok(Listed::new(outages))
 }

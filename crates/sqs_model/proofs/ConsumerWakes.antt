@@ -128,7 +128,7 @@ module _ (now : ℕ) (b : Actor) where
     failed_stays (t ∷ ts) false d g e s = rw e (held_stays d d.held [] (d.failed ++ (d.done ++ g ∷ [])) d.ends Failed s)
     failed_stays (t ∷ ts) true d g e s = rw e (held_stays d [] [] (d.failed ++ (d.done ++ g ∷ d.held)) d.ends Failed s)
 
-    ends_woke : (d : Actor) (g : Got) (failed : Bool) → Stays b d → Wakes (ends_service d c now g failed)
+    pub ends_woke : (d : Actor) (g : Got) (failed : Bool) → Stays b d → Wakes (ends_service d c now g failed)
     ends_woke d g true s = record { stays = failed_stays c.backoff c.whole d g refl s; act = tt }
     ends_woke d g false s = well_woke c.whole d g d.held s
 

@@ -3,12 +3,12 @@ ghost use Rattle.std.specs.Prelude.{◌≡◌, ◌<◌, ◌≤◌, ◌+◌, [], 
 ghost use Rattle.sqs_message.specs.Ids.{receipt_text};
 ghost use Rattle.sqs_model.specs.declared.agents.ActorSettings.{ActorSettings};
 ghost use Rattle.sqs_model.specs.declared.agents.Serving.TheVariants.{Each};
-ghost use Rattle.sqs_model.specs.Actor.{woken, idle as the_idle, serving as the_serving, serves as the_serves, settles as the_settles, fails_service as the_fails_service, backs_off as the_backs_off, backoff_at as the_backoff_at, goes_on as the_goes_on, drawn_failure, has_failed as the_has_failed, rests as the_rests, consumer_wake as the_consumer_wake, consumer_got as the_consumer_got, consumer_told as the_consumer_told};
+ghost use Rattle.sqs_model.specs.Actor.{woken, idle as the_idle, serving as the_serving, serves as the_serves, settles as the_settles, fails_service as the_fails_service, backs_off as the_backs_off, backoff_at as the_backoff_at, goes_on as the_goes_on, drawn_failure, has_failed as the_has_failed, outcome as the_outcome, rests as the_rests, consumer_wake as the_consumer_wake, consumer_got as the_consumer_got, consumer_told as the_consumer_told};
 ghost use Rattle.sqs_model.specs.Answers.{most_count};
 ghost use Rattle.sqs_model.specs.Longest.{longest_timeout};
 ghost use Rattle.sqs_model.specs.Valid.{IsConsumer, IsLatency, MayBeForward};
 ghost use Rattle.sqs_redrive.specs.Received.{most_received};
-ghost use Rattle.sim_actor.specs.Lives.{Becomes, Changes, Decides, DecidesAt, DoesNothing, EndsFirst, EndsThis, FollowsUp, Lived, lived, EndsAnywhere, begins_or_fails, begins_service, drawn_service, ends_all, ends_as, ends_held, ends_or_fails, in_service, Lives};
+ghost use Rattle.sim_actor.specs.Lives.{Becomes, Changes, Decides, DecidesAt, DoesNothing, Drawn, EndsFirst, EndsThis, FollowsUp, Lived, lived, EndsAnywhere, begins_or_fails, begins_service, drawn_service, ends_all, ends_as, ends_held, ends_or_fails, in_service, Lives};
 
 use super::failing::{failing, fails};
 use super::gathering::is_gathering;
@@ -404,8 +404,22 @@ impl Life {
         }
     }
 
-    // Ends the service of the first message that it holds. Whether it fails was decided when it
-    // began, or else is drawn now.
+    // Whether the service that ends fails: as was decided when it began, or else drawn now.
+    fn outcome(&mut self, consumer: &ConsumerSettings, now: u64) -> Result<bool, Refusal>
+        ensures outcome { (s : ActorSettings) → Drawn result self.new.draws
+            (the_outcome consumer.now.fail_service (lived s self.old) consumer.now now) }
+        ensures framed { self.new ≡ record self.old { draws = self.new.draws } }
+    {
+        if consumer.fail_service.is_some() {
+            return Ok(self.will_fail);
+        }
+        if self.draws.taken() == MOST_COUNT {
+            return Err(Refusal::CountLimit);
+        }
+        Ok(self.draw_failure(consumer, now))
+    }
+
+    // Ends the service of the first message that it holds.
     fn end_service(
         &mut self,
         consumer: &ConsumerSettings,
@@ -418,13 +432,7 @@ impl Life {
             (ends_or_fails consumer.now now) }
         ensures framed { self.new.number ≡ self.old.number }
     {
-        if consumer.fail_service.is_some() {
-            return self.end_as(consumer, home, now, self.will_fail);
-        }
-        if self.draws.taken() == MOST_COUNT {
-            return Err(Refusal::CountLimit);
-        }
-        let failed = self.draw_failure(consumer, now);
+        let failed = self.outcome(consumer, now)?;
         self.end_as(consumer, home, now, failed)
     }
 

@@ -90,7 +90,7 @@ fn is_served(actors: &[ActorSettings], serving: Serving, outages: &[Outage]) -> 
 #[test]
 fn consumers_of_version_3_are_as_their_keys_say(rt: HostRuntime) {
     let text =
-        b"version = 3\nhorizon = 90\n[[queue]]\nname = 'q'\n[[actor]]\nname = 'c'\nkind = 'consumer'\nqueue = 'q'\nservice_min_ms = 1\nservice_max_ms = 2\nbatch_service = 'once'\nservice_each_ms = 20\nfail_service_ms = 30\nfails_between_ms = [[10, 20], [5, 5]]\nfails_permille = 900\nbatch_fails = 'whole'\nbackoff_s = [1]\nbackoff_jitter = 'full'\n".as_slice();
+        b"version = 3\nhorizon = 90\n[[queue]]\nname = 'q'\n[[actor]]\nname = 'c'\nkind = 'consumer'\nqueue = 'q'\nservice_min_ms = 1\nservice_max_ms = 2\nbatch_service = 'once'\nservice_each_ms = 20\nfail_service_ms = 30\nfails_between_ms = [[10, 20], [5, 5]]\nfails_permille = [900, 300]\nbatch_fails = 'whole'\nbackoff_s = [1]\nbackoff_jitter = 'full'\n".as_slice();
     let outages = [
         Outage {
             stretch: Stretch { from: 10, to: 20 },
@@ -98,7 +98,7 @@ fn consumers_of_version_3_are_as_their_keys_say(rt: HostRuntime) {
         },
         Outage {
             stretch: Stretch { from: 5, to: 5 },
-            permille: 900,
+            permille: 300,
         },
     ];
     match previewed(rt.alloc(), text) {
