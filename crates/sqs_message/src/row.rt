@@ -27,6 +27,8 @@ pub enum RowKind {
     Expire,
     /// A move task ended.
     Task,
+    /// A scaler changed how many copies of a consumer ask for messages.
+    Scale,
     Sample,
 }
 
@@ -85,6 +87,8 @@ pub enum Detail {
     Task(u32),
     /// The number of messages that a task moved.
     Moved(u64),
+    /// How many copies of a consumer asked for messages, and how many do from now on.
+    Copies { from: u64, to: u64 },
     /// The number of a queue's messages in each state.
     Counts {
         visible: u64,

@@ -1,5 +1,6 @@
 -- What an actor does next leaves it sound, makes it wake later or as before, and sends only what arrives later.
-use Rattle.std.specs.Prelude.{Bool, List, None, Option, Some, [], drop, if◌then◌else◌, length, max, nat_lt, suc, zero, ℕ, ◌++◌, ◌+◌, ◌<◌, ◌∷◌, ◌≡◌, ◌≤◌, ◌⊎◌}
+use Rattle.std.proofs.lemmas.Bool.{eqb-false}
+use Rattle.std.specs.Prelude.{Bool, List, None, Option, Some, [], drop, if◌then◌else◌, length, max, nat_lt, suc, zero, ℕ, ◌++◌, ◌+◌, ◌<◌, ◌∷◌, ◌==◌, ◌-◌, ◌≡◌, ◌≢◌, ◌≤◌, ◌⊎◌, false, true}
 use Rattle.std.proofs.Common.{add-one, ap, arith, inl, inr, refl, subst, sym, ◌∙◌}
 use Rattle.sqs_message.specs.declared.calls.ScriptCall.{ScriptCall}
 use Rattle.sqs_model.specs.declared.acts.Act.{Act}
@@ -11,12 +12,15 @@ use Rattle.sqs_model.specs.declared.agents.ConsumerSettings.{ConsumerSettings}
 use Rattle.sqs_model.specs.declared.agents.Forwarding.{Forwarding}
 use Rattle.sqs_model.specs.declared.agents.ProducerSettings.{ProducerSettings}
 use Rattle.sqs_model.specs.declared.agents.Role.{Role}
-use Rattle.sqs_model.specs.declared.agents.Role.TheVariants.{Consumer, Producer, Script}
+use Rattle.sqs_model.specs.declared.agents.Role.TheVariants.{Consumer, Producer, Scaler, Script}
+use Rattle.sqs_model.specs.declared.acts.Standing.{Standing}
+use Rattle.sqs_model.specs.declared.agents.ScalerSettings.{ScalerSettings}
+use Rattle.sqs_model.specs.declared.agents.Scaling.{Scaling}
 use Rattle.sqs_model.specs.declared.agents.Serving.{Serving}
 use Rattle.sqs_model.specs.declared.agents.Serving.TheVariants.{Each, Once}
 use Rattle.sqs_redrive.specs.declared.answers.Got.{Got}
 use Rattle.sqs_redrive.specs.declared.transfers.Outbound.{Outbound}
-use Rattle.sqs_model.specs.Actor.{Actor, Asked, Beat, Ended, Failed, Gathered, Served, LastAct, asks_again, begins_by, begins_first, begins_next, consumer_told, consumer_wake, drawn_failure, first_at, gathers_on, got_more, has_come, has_failed, idle, in_service, is_gathered, next, next_as, next_beat, producer_sent, producer_wake, rest_after, script_wake, service_of, serving, wakes_after, woken}
+use Rattle.sqs_model.specs.Actor.{Actor, Asked, Beat, Decided, Ended, Failed, Gathered, Parked, Read, Served, LastAct, asks_again, begins_by, begins_first, begins_next, consumer_told, consumer_wake, copies_after, copy_rests, copy_wake, drawn_failure, first_at, gathers_on, got_more, has_come, has_failed, has_nothing, idle, in_service, is_gathered, is_parked, is_wanted, looks_again, next, next_as, next_beat, producer_sent, producer_wake, reads, rest_after, scaler_wake, scales, scales_for, script_wake, service_of, serving, wakes_after, wanted_for, woken}
 use Rattle.sqs_model.specs.Draw.{Draws, drawn_time}
 use Rattle.sqs_model.specs.Progress.{Ascends, IsSoundActor, IsSoundDistribution, IsSoundForward, IsSoundRole, WakesFor}
 use Rattle.sqs_model.proofs.Counts.{ascends_lower}
@@ -24,7 +28,7 @@ use Rattle.sqs_model.proofs.ConsumerWakes.{IsForwardBy, consumer_woke, service_s
 use Rattle.sqs_model.proofs.Effects.{time_least}
 use Rattle.sqs_model.proofs.EachDue.{wake_key}
 use Rattle.sqs_model.proofs.Weights.{Weight, actor_weight, weigh_if}
-use Rattle.sqs_model.proofs.Branches.{either}
+use Rattle.sqs_model.proofs.Branches.{either, either_by}
 use Rattle.sqs_model.proofs.Sending.{Sends, call_sends}
 
 -- the rest of a list in order is in order
@@ -65,7 +69,7 @@ module _ (now : ℕ) (w : Weight now) where
 
   -- whether an answer is a wake, where dues are gone
   abbrev pub IsWakeWhere : ℕ → Actor → Answer → Type 0
-  IsWakeWhere gone a told_by.Wake = IsGone gone a
+  IsWakeWhere gone a (told_by.Wake st) = IsGone gone a
   IsWakeWhere gone a (told_by.Got gots) = gone ≡ 0
   IsWakeWhere gone a told_by.Waiting = gone ≡ 0
   IsWakeWhere gone a told_by.Other = gone ≡ 0
@@ -149,6 +153,55 @@ module _ (now : ℕ) (w : Weight now) where
       forward_later : (f : Forwarding) (o : Outbound) → IsSoundForward (Some f) → IsForwardBy now (woken a) f o → now < o.at
       forward_later f o one by = let late : now + f.latency.least ≤ o.at = by.late in omega arith
 
+  -- copies
+  sleeps_steps : (gone : ℕ) (c : ConsumerSettings) (a : Actor) (next : Option ℕ) → IsGone now w gone a → Steps now w gone (Consumer c) a (acts.Nothing, record (woken a) { wake = looks_again now next; last_act = Parked })
+  sleeps_steps gone c a None g = record { number = refl; settings = refl; wakes = tt; wake = omega (arith, gone_at_most gone a g); sends = tt }
+  sleeps_steps gone c a (Some next) g =
+      let past : w.of (wake_key (max now next + 1) (woken a)) ≡ 0 = w.past (wake_key (max now next + 1) (woken a)) (omega arith) in
+      record { number = refl; settings = refl; wakes = tt; wake = omega (arith, gone_at_most gone a g); sends = tt }
+
+  copy_rests_steps :
+      (gone : ℕ) (wanted : Bool) (s : Scaling) (c : ConsumerSettings) (a : Actor) (next : Option ℕ) → IsSoundForward c.forward → IsGone now w gone a
+      → Steps now w gone (Consumer c) a (copy_rests wanted s (woken a) c now next)
+  copy_rests_steps gone false s c a next f g = sleeps_steps gone c a next g
+  copy_rests_steps gone true s c a next f g =
+      let past : w.of (wake_key (max (now + 1) (now + s.start)) (woken a)) ≡ 0 = w.past (wake_key (max (now + 1) (now + s.start)) (woken a)) (omega arith) in
+      either (Steps now w gone (Consumer c) a) (is_parked a.last_act) _ _
+      (record { number = refl; settings = refl; wakes = tt; wake = omega (arith, gone_at_most gone a g); sends = tt })
+      (consumer_wake_steps gone c a a.held f g)
+
+  copy_wake_steps :
+      (gone : ℕ) (o : Option Scaling) (c : ConsumerSettings) (a : Actor) (st : Standing) → IsSoundForward c.forward → IsGone now w gone a
+      → Steps now w gone (Consumer c) a (copy_wake o (woken a) c now st)
+  copy_wake_steps gone None c a st f g = consumer_wake_steps gone c a a.held f g
+  copy_wake_steps gone (Some s) c a st f g =
+      either (Steps now w gone (Consumer c) a) (has_nothing (woken a)) _ _ (copy_rests_steps gone (is_wanted s st.number (woken a)) s c a st.next f g)
+      (consumer_wake_steps gone c a a.held f g)
+
+  -- scalers
+  scales_steps : (gone : ℕ) (s : ScalerSettings) (a : Actor) (copies changed to : ℕ) → s.reading < s.every → IsGone now w gone a → Steps now w gone (Scaler s) a (scales (woken a) s now copies changed to)
+  scales_steps gone s a copies changed to h g =
+      let past : w.of (wake_key (now + (s.every - s.reading)) (woken a)) ≡ 0 = w.past (wake_key (now + (s.every - s.reading)) (woken a)) (omega (arith, h)) in
+      either (Steps now w gone (Scaler s) a) (to == copies) _ _
+      (record { number = refl; settings = refl; wakes = tt; wake = omega (arith, gone_at_most gone a g); sends = tt })
+      (record { number = refl; settings = refl; wakes = tt; wake = omega (arith, gone_at_most gone a g); sends = tt })
+
+  scales_for_steps : (gone : ℕ) (s : ScalerSettings) (a : Actor) (copies changed visible : ℕ) → s.reading < s.every → IsGone now w gone a → Steps now w gone (Scaler s) a (scales_for (woken a) s now copies changed visible)
+  scales_for_steps gone s a copies changed visible h g = scales_steps gone s a copies changed (copies_after s now copies changed (wanted_for s visible)) h g
+
+  reads_steps : (gone : ℕ) (s : ScalerSettings) (a : Actor) (copies changed visible : ℕ) → s.reading < s.every → IsGone now w gone a → Steps now w gone (Scaler s) a (reads (woken a) s now copies changed visible)
+  reads_steps gone s a copies changed visible h g =
+      either_by (Steps now w gone (Scaler s) a) (s.reading == 0) _ _ (λ e. scales_for_steps gone s a copies changed visible h g)
+      (λ e.
+      let some : s.reading ≢ 0 = eqb-false s.reading 0 e in
+      let past : w.of (wake_key (now + s.reading) (woken a)) ≡ 0 = w.past (wake_key (now + s.reading) (woken a)) (omega (arith, some)) in
+      record { number = refl; settings = refl; wakes = tt; wake = omega (arith, gone_at_most gone a g); sends = tt })
+
+  scaler_wake_steps : (gone : ℕ) (s : ScalerSettings) (a : Actor) (visible : ℕ) (last : LastAct) → s.reading < s.every → IsGone now w gone a → Steps now w gone (Scaler s) a (scaler_wake (woken a) s now visible last)
+  scaler_wake_steps gone s a visible (Read copies changed before) h g = scales_for_steps gone s a copies changed before h g
+  scaler_wake_steps gone s a visible (Decided copies changed) h g = reads_steps gone s a copies changed visible h g
+  scaler_wake_steps gone s a visible last h g = reads_steps gone s a s.least 0 visible h g
+
   in_service_steps : (c : ConsumerSettings) (a b : Actor) → b.number ≡ a.number → b.settings ≡ a.settings → Steps now w 0 (Consumer c) a (acts.Nothing, in_service b c now)
   in_service_steps c a b n s =
       let past : w.of (wake_key (max (now + 1) (next_beat c.heartbeat now b.ends)) b) ≡ 0 = w.past (wake_key (max (now + 1) (next_beat c.heartbeat now b.ends)) b) (omega arith) in
@@ -199,20 +252,25 @@ module _ (now : ℕ) (w : Weight now) where
   consumer_told_steps c a Ended s = serving_steps c a a.held
   consumer_told_steps c a Failed s = failed_steps c a a.failed
   consumer_told_steps c a Beat s = in_service_steps c a a refl refl
+  consumer_told_steps c a last s = same_steps (Consumer c) a tt
 
   role_steps : (gone : ℕ) (r : Role) (a : Actor) (answer : Answer) → IsSoundRole r → WakesFor r a → IsWakeWhere now w gone a answer → Steps now w gone r a (next_as r a now answer)
-  role_steps gone (Script script) a told_by.Wake s k g = script_steps gone script a (drop a.wakes script) refl (drop_ascends 0 a.wakes script s) k g
+  role_steps gone (Script script) a (told_by.Wake st) s k g = script_steps gone script a (drop a.wakes script) refl (drop_ascends 0 a.wakes script s) k g
   role_steps gone (Script script) a (told_by.Got gots) s k g = rw g (same_steps (Script script) a k)
   role_steps gone (Script script) a told_by.Waiting s k g = rw g (same_steps (Script script) a k)
   role_steps gone (Script script) a told_by.Other s k g = rw g (same_steps (Script script) a k)
-  role_steps gone (Producer p) a told_by.Wake s k g = producer_wake_steps gone p a g
+  role_steps gone (Producer p) a (told_by.Wake st) s k g = producer_wake_steps gone p a g
   role_steps gone (Producer p) a (told_by.Got gots) s k g = rw g (same_steps (Producer p) a k)
   role_steps gone (Producer p) a told_by.Waiting s k g = rw g (same_steps (Producer p) a k)
   role_steps gone (Producer p) a told_by.Other s k g = rw g (producer_sent_steps p a s)
-  role_steps gone (Consumer c) a told_by.Wake s k g = consumer_wake_steps gone c a a.held s.2 g
+  role_steps gone (Consumer c) a (told_by.Wake st) s k g = copy_wake_steps gone c.scaling c a st s.2 g
   role_steps gone (Consumer c) a (told_by.Got gots) s k g = rw g (consumer_got_steps c a a.held gots s)
   role_steps gone (Consumer c) a told_by.Waiting s k g = rw g (same_steps (Consumer c) a k)
   role_steps gone (Consumer c) a told_by.Other s k g = rw g (consumer_told_steps c a a.last_act s)
+  role_steps gone (Scaler s) a (told_by.Wake st) h k g = scaler_wake_steps gone s a st.number a.last_act h g
+  role_steps gone (Scaler s) a (told_by.Got gots) h k g = rw g (same_steps (Scaler s) a k)
+  role_steps gone (Scaler s) a told_by.Waiting h k g = rw g (same_steps (Scaler s) a k)
+  role_steps gone (Scaler s) a told_by.Other h k g = rw g (same_steps (Scaler s) a k)
 
   acts_from : (gone : ℕ) (a : Actor) (x : Act × Actor) → IsSoundActor a → Steps now w gone a.settings.role a x → Acts now w gone a x
   acts_from gone a x s h =

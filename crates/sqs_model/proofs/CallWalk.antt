@@ -40,13 +40,13 @@ use Rattle.sqs_model.specs.Queue.{Queue}
 use Rattle.sqs_model.specs.Receive.{give_most, receive}
 use Rattle.sqs_model.specs.Return.{released}
 use Rattle.sqs_model.specs.Site.{Core, Effect, Poll, Site, actor_numbered, and_then, has_key, no_effect, number_of, says, task_numbered, with_actor, with_task}
-use Rattle.sqs_model.specs.Step.{Handled, arrival_done, ends_at, handle_arrival, handle_class, handle_expiry, handle_step, handled, handled_when, is_arrival, release_done, with_polls}
+use Rattle.sqs_model.specs.Step.{Handled, arrival_done, ends_at, handle_arrival, handle_class, handle_expiry, handle_step, handled, handled_when, is_arrival, release_done, with_polls, woken_by}
 use Rattle.sqs_model.specs.Task.{Task}
 use Rattle.sqs_model.proofs.Answered.{receive_by}
 use Rattle.sqs_model.proofs.Branches.{either, either_by}
 use Rattle.sqs_model.proofs.Ledger.{marks}
 
--- whether a row of a kind with an answer tells of no message: that of a receive that gives none, of a task or of a sample
+-- whether a row of a kind with an answer tells of no message: that of a receive that gives none, of a task, a scaler or a sample
 abbrev pub TellsOfNone : RowKind → RowAnswer → Type 0
 TellsOfNone kinds.Receive answers.Empty = Unit {0}
 TellsOfNone kinds.Receive answers.Wait = Unit {0}
@@ -55,6 +55,7 @@ TellsOfNone kinds.Start answers.Ok = Unit {0}
 TellsOfNone kinds.Start (answers.Refused e) = Unit {0}
 TellsOfNone kinds.Cancel answers.Ok = Unit {0}
 TellsOfNone kinds.Cancel (answers.Refused e) = Unit {0}
+TellsOfNone kinds.Scale answers.Ok = Unit {0}
 TellsOfNone kinds.Sample answers.Ok = Unit {0}
 TellsOfNone kind answer = ⊥
 
@@ -80,7 +81,7 @@ IsBare answer = Unit {0}
 bare_told : (Hears : Core → List Got → Type 0) → ((c : Core) → Hears c []) → (c : Core) (answer : Answer) → IsBare answer → IsTold Hears c answer
 bare_told Hears none c (told_by.Got []) b = none c
 bare_told Hears none c (told_by.Got (g ∷ gs)) b = absurd b
-bare_told Hears none c told_by.Wake b = tt
+bare_told Hears none c (told_by.Wake st) b = tt
 bare_told Hears none c told_by.Waiting b = tt
 bare_told Hears none c told_by.Other b = tt
 
@@ -221,6 +222,7 @@ module _ (key : Key) (law : CallLaw key) where
   act_goes p a c (acts.Start task) s m h = start_goes p a c task (task_numbered task c) refl h
   act_goes p a c (acts.Cancel task) s m h = cancel_goes p a c task (task_numbered task c) refl h
   act_goes p a c (acts.Serve id r failed forwards) s m h = serves_goes p a c id r failed forwards (law.serves p a c id r failed forwards m h)
+  act_goes p a c (acts.Scale from to) s m h = plainly p _ tt (says_only p c _ (record { at_key = refl; at_site = refl; silent = λ o. refl; nameless = refl; kind = tt }) h)
   act_goes p a c acts.Nothing s m h = plainly p _ tt (nothing p c h)
 
   -- turns
@@ -315,7 +317,7 @@ module _ (key : Key) (law : CallLaw key) (due : DueLaw key law) where
       let e : Effect = says left (receive_row key c key.agent answers.Empty) in
       follows key law p e (told key key.agent (told_by.Got [])) (λ q k. most_goes key law 3 key.agent (told_by.Got []) q left (law.hears_none left) k)
       (says_so key law p c left _ (record { at_key = refl; at_site = refl; silent = λ o. refl; nameless = refl; kind = tt }) h (due.ends p c h))
-  class_goes classes.Wake p c d h = most_goes key law 3 key.agent told_by.Wake p c tt h
+  class_goes classes.Wake p c d h = most_goes key law 3 key.agent (told_by.Wake (woken_by c (actor_numbered key.agent c))) p c tt h
   class_goes classes.Sample p c d h = says_so key law p c (record c { samples = c.samples + 1 }) _ (record { at_key = refl; at_site = refl; silent = λ o. refl; nameless = refl; kind = tt }) h (due.samples p c h)
   class_goes classes.Step p c d h = step_goes p c (task_numbered key.agent c) refl h
 

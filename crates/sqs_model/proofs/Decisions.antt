@@ -1,5 +1,5 @@
 -- What an actor decides: it keeps its number and settings, its counts only grow, and it sends at most the forwards of its role.
-use Rattle.std.specs.Prelude.{List, None, Option, Some, [], drop, length, nat_lt, ℕ, ◌++◌, ◌+◌, ◌∷◌, ◌≡◌, ◌≤◌}
+use Rattle.std.specs.Prelude.{List, None, Option, Some, [], drop, length, nat_lt, ℕ, ◌++◌, ◌+◌, ◌∷◌, ◌==◌, ◌≡◌, ◌≤◌, Bool, false, true}
 use Rattle.std.proofs.Common.{arith, refl, subst, sym}
 use Rattle.sqs_message.specs.declared.calls.ScriptCall.{ScriptCall}
 use Rattle.sqs_redrive.specs.declared.answers.Got.{Got}
@@ -12,10 +12,13 @@ use Rattle.sqs_model.specs.declared.agents.ConsumerSettings.{ConsumerSettings}
 use Rattle.sqs_model.specs.declared.agents.Forwarding.{Forwarding}
 use Rattle.sqs_model.specs.declared.agents.ProducerSettings.{ProducerSettings}
 use Rattle.sqs_model.specs.declared.agents.Role.{Role}
-use Rattle.sqs_model.specs.declared.agents.Role.TheVariants.{Consumer, Producer, Script}
+use Rattle.sqs_model.specs.declared.agents.Role.TheVariants.{Consumer, Producer, Scaler, Script}
+use Rattle.sqs_model.specs.declared.acts.Standing.{Standing}
+use Rattle.sqs_model.specs.declared.agents.ScalerSettings.{ScalerSettings}
+use Rattle.sqs_model.specs.declared.agents.Scaling.{Scaling}
 use Rattle.sqs_model.specs.declared.agents.Serving.{Serving}
 use Rattle.sqs_model.specs.declared.agents.Serving.TheVariants.{Each, Once}
-use Rattle.sqs_model.specs.Actor.{Actor, Asked, Beat, Ended, Failed, Gathered, Served, LastAct, backoff_at, begins_by, begins_next, consumer_told, consumer_wake, gathers_on, got_more, has_come, has_failed, is_gathered, next, next_as, rest_after, producer_sent, producer_wake, script_wake, service_of, serving, wakes_after, woken}
+use Rattle.sqs_model.specs.Actor.{Actor, Asked, Beat, Decided, Ended, Failed, Gathered, Read, Served, LastAct, backoff_at, begins_by, begins_next, consumer_told, consumer_wake, copies_after, copy_rests, copy_wake, gathers_on, got_more, has_come, has_failed, has_nothing, is_gathered, is_parked, is_wanted, next, next_as, rest_after, producer_sent, producer_wake, reads, scaler_wake, scales, script_wake, service_of, serving, wakes_after, wanted_for, woken}
 use Rattle.sqs_model.specs.Draw.{Draws, drawn_time}
 use Rattle.sqs_model.proofs.Branches.{either}
 use Rattle.sqs_model.proofs.ConsumerWakes.{IsForwardBy, MayForwardBy, consumer_woke, service_sends}
@@ -27,6 +30,7 @@ abbrev pub forward_of : Role → Option Forwarding
 forward_of (Script script) = None
 forward_of (Producer p) = None
 forward_of (Consumer c) = c.forward
+forward_of (Scaler s) = None
 
 pub record Decides (now : ℕ) (a : Actor) (f : Option Forwarding) (x : Act × Actor) : Type 0 where
   pub number : x.1.number ≡ a.number
@@ -76,6 +80,15 @@ module _ (now : ℕ) (a : Actor) where
           sends = service_sends now (woken a) c.wait (MayForwardBy now a c.forward) c.forward _ same_forward x.act;
         }
 
+    copy_rests_decides : (wanted : Bool) (s : Scaling) (next : Option ℕ) → Decides now a c.forward (copy_rests wanted s (woken a) c now next)
+    copy_rests_decides false s next = rests c.forward _ refl refl refl (omega arith) refl (omega arith) _ tt
+    copy_rests_decides true s next =
+        either (Decides now a c.forward) (is_parked a.last_act) _ _ (rests c.forward _ refl refl refl (omega arith) refl (omega arith) _ tt) (woke_decides a.held)
+
+    copy_decides : (o : Option Scaling) (st : Standing) → Decides now a c.forward (copy_wake o (woken a) c now st)
+    copy_decides None st = woke_decides a.held
+    copy_decides (Some s) st = either (Decides now a c.forward) (has_nothing (woken a)) _ _ (copy_rests_decides (is_wanted s st.number (woken a)) s st.next) (woke_decides a.held)
+
     begins_decides :
         (failed : Option ℕ) (b : Actor) (drawn : ℕ × Draws) → b.number ≡ a.number → b.settings ≡ a.settings → b.polls ≡ a.polls → a.wakes ≤ b.wakes → b.sent ≡ a.sent → a.draws.taken ≤ drawn.1.taken
         → Decides now a c.forward (acts.Nothing, begins_by failed b c now drawn)
@@ -114,17 +127,36 @@ module _ (now : ℕ) (a : Actor) where
     told_decides Gathered = gathers_decides a.held a.done a.failed a.ends c.idle
     told_decides (Served r) = rests c.forward _ refl refl refl (omega arith) refl (omega arith) _ tt
     told_decides Beat = rests c.forward _ refl refl refl (omega arith) refl (omega arith) _ tt
+    told_decides last = none c.forward
+
+  module _ (s : ScalerSettings) where
+    scales_decides : (copies changed to : ℕ) → Decides now a None (scales (woken a) s now copies changed to)
+    scales_decides copies changed to =
+        either (Decides now a None) (to == copies) _ _ (rests None _ refl refl refl (omega arith) refl (omega arith) _ tt)
+        (rests None _ refl refl refl (omega arith) refl (omega arith) _ tt)
+
+    reads_decides : (copies changed visible : ℕ) → Decides now a None (reads (woken a) s now copies changed visible)
+    reads_decides copies changed visible =
+        either (Decides now a None) (s.reading == 0) _ _ (scales_decides copies changed (copies_after s now copies changed (wanted_for s visible)))
+        (rests None _ refl refl refl (omega arith) refl (omega arith) _ tt)
+
+    scaler_decides : (visible : ℕ) (last : LastAct) → Decides now a None (scaler_wake (woken a) s now visible last)
+    scaler_decides visible (Read copies changed before) = scales_decides copies changed (copies_after s now copies changed (wanted_for s before))
+    scaler_decides visible (Decided copies changed) = reads_decides copies changed visible
+    scaler_decides visible last = reads_decides s.least 0 visible
 
   as_decides : (r : Role) (w : Answer) → Decides now a (forward_of r) (next_as r a now w)
-  as_decides (Script script) told_by.Wake = script_decides (drop a.wakes script)
+  as_decides (Script script) (told_by.Wake st) = script_decides (drop a.wakes script)
   as_decides (Script script) w = none None
-  as_decides (Producer p) told_by.Wake = producer_decides p
+  as_decides (Producer p) (told_by.Wake st) = producer_decides p
   as_decides (Producer p) told_by.Other = sent_decides p
   as_decides (Producer p) w = none None
-  as_decides (Consumer c) told_by.Wake = woke_decides c a.held
+  as_decides (Consumer c) (told_by.Wake st) = copy_decides c c.scaling st
   as_decides (Consumer c) (told_by.Got gots) = got_decides c a.held gots
   as_decides (Consumer c) told_by.Waiting = none c.forward
   as_decides (Consumer c) told_by.Other = told_decides c a.last_act
+  as_decides (Scaler s) (told_by.Wake st) = scaler_decides s st.number a.last_act
+  as_decides (Scaler s) w = none None
 
   pub next_decides : (w : Answer) → Decides now a (forward_of a.settings.role) (next a now w)
   unfolding next

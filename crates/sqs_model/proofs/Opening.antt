@@ -8,7 +8,7 @@ use Rattle.sqs_redrive.specs.declared.settings.QueueSettings.{QueueSettings}
 use Rattle.sqs_redrive.specs.declared.settings.TaskSettings.{TaskSettings}
 use Rattle.sqs_model.specs.declared.agents.ActorSettings.{ActorSettings}
 use Rattle.sqs_model.specs.declared.agents.Role.{Role}
-use Rattle.sqs_model.specs.declared.agents.Role.TheVariants.{Consumer, Producer, Script}
+use Rattle.sqs_model.specs.declared.agents.Role.TheVariants.{Consumer, Producer, Scaler, Script}
 use Rattle.sqs_model.specs.Actor.{Actor}
 use Rattle.sqs_model.specs.Progress.{Ascends, IsSound, IsSoundActor, IsSoundRole, IsSoundScenario, IsSoundSettings, OpeningIsSound, TakesTime, WakesFor}
 use Rattle.sqs_model.specs.Scenario.{Scenario, numbered_actors, numbered_tasks, opening_actor, opening_core, opening_site, opening_task}
@@ -43,6 +43,7 @@ wakes_first : (s : Scenario) (n : ℕ) (settings : ActorSettings) (r : Role) →
 wakes_first s n settings (Script script) h = rw h refl
 wakes_first s n settings (Producer p) h = tt
 wakes_first s n settings (Consumer c) h = tt
+wakes_first s n settings (Scaler z) h = tt
 
 actor_sound : (s : Scenario) (x : ℕ × ActorSettings) → IsSoundRole x.1.role → IsSoundActor (opening_actor s.seed x)
 actor_sound s (n, settings) h = record { role = h; wakes = wakes_first s n settings settings.role refl }

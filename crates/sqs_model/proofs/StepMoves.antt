@@ -26,7 +26,7 @@ use Rattle.sqs_model.specs.Progress.{IsSound, TakesTime}
 use Rattle.sqs_model.specs.Queue.{Queue, numbered, taken_out}
 use Rattle.sqs_model.specs.Return.{leaves, released_found, released_when}
 use Rattle.sqs_model.specs.Site.{Core, Effect, Poll, actor_numbered, task_numbered, with_queue, with_task, Site}
-use Rattle.sqs_model.specs.Step.{Moved, ends_at, expiry_done, handle_arrival, handle_expiry, handle_poll_end, handle_release, handle_sample, handle_step, handle_taken, handle_wake, move_out, moves, one_sent, release_done, with_polls, handled}
+use Rattle.sqs_model.specs.Step.{Moved, ends_at, expiry_done, handle_arrival, handle_expiry, handle_poll_end, handle_release, handle_sample, handle_step, handle_taken, handle_wake, move_out, moves, one_sent, release_done, with_polls, handled, woken_by}
 use Rattle.sqs_redrive.specs.MoveTasks.{MoveTask, is_running, task_stepped}
 use Rattle.sqs_model.specs.Task.{Task, take_movable}
 use Rattle.sqs_model.proofs.Counts.{find_picked, total_without, less_without}
@@ -95,7 +95,7 @@ module _ (key : Key) (w : Weight key.at) where
   pub wake_falls : (c : Core) (a : Actor) → IsSound c → In c.actors a → key ≡ wake_key key.at a → a.wake ≡ Some key.at → KeepsEffect key w (w.of key) c (handle_wake key c)
   wake_falls c a s h is at =
       let own : actor_numbered a.number c ≡ Some a = found_by_number (λ (x : Actor). x.number) 0 c.actors a s.actors_ordered h in
-      subst (λ n. KeepsEffect key w n c (handle_wake key c)) (ap w.of (sym is)) (wake_keeps key w key.agent c a s (subst (λ (k : Key). actor_numbered k.agent c ≡ Some a) (sym is) own) at)
+      subst (λ n. KeepsEffect key w n c (handle_wake key c)) (ap w.of (sym is)) (wake_keeps key w key.agent (woken_by c (actor_numbered key.agent c)) c a s (subst (λ (k : Key). actor_numbered k.agent c ≡ Some a) (sym is) own) at)
 
   -- the next sample is later
   sample_core : (gone : ℕ) (c : Core) → IsSound c → sample_weight w c.sample (c.samples + 1) + gone ≤ sample_weight w c.sample c.samples → KeepsCore w gone c (record c { samples = c.samples + 1 })

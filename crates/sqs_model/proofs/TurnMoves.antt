@@ -22,7 +22,8 @@ use Rattle.sqs_model.specs.Task.{Task}
 use Rattle.sqs_model.specs.declared.acts.Act.{Act}
 use Rattle.sqs_model.specs.declared.acts.Answer.{Answer}
 use Rattle.sqs_model.specs.declared.agents.Role.{Role}
-use Rattle.sqs_model.specs.declared.agents.Role.TheVariants.{Consumer, Producer, Script}
+use Rattle.sqs_model.specs.declared.acts.Standing.{Standing}
+use Rattle.sqs_model.specs.declared.agents.Role.TheVariants.{Consumer, Producer, Scaler, Script}
 use Rattle.sqs_redrive.specs.MoveTasks.{task_started}
 use Rattle.sqs_redrive.specs.declared.settings.Kind.{Kind}
 use Rattle.sqs_redrive.specs.declared.settings.Kind.TheVariants.{Fifo, Standard}
@@ -40,6 +41,7 @@ polls_wake : (r : Role) (a : Actor) (n : ℕ) → WakesFor r a → WakesFor r (r
 polls_wake (Script script) a n w = w
 polls_wake (Producer p) a n w = w
 polls_wake (Consumer c) a n w = w
+polls_wake (Scaler s) a n w = w
 
 -- a task that was found by a number is the one of its own number
 pub task_own : (c : Core) (n : ℕ) (t : Task) → task_numbered n c ≡ Some t → task_numbered t.number c ≡ Some t
@@ -93,7 +95,7 @@ module _ (key : Key) (w : Weight key.at) where
       actor_keeps w gone c (next a key.at answer).1 a s same x.sound x.wake
 
   pub none_gone : (a : Actor) (answer : Answer) → IsWakeWhere key.at w 0 a answer
-  none_gone a told_by.Wake = inl refl
+  none_gone a (told_by.Wake st) = inl refl
   none_gone a (told_by.Got gots) = refl
   none_gone a told_by.Waiting = refl
   none_gone a told_by.Other = refl
@@ -154,13 +156,13 @@ module _ (key : Key) (w : Weight key.at) where
   told_keeps n answer c s = most_goes key (moves c 0) 3 n answer tt c (same_core w c s)
 
   -- an actor that wakes at the present
-  pub wake_keeps : (n : ℕ) (c : Core) (a : Actor) → IsSound c → actor_numbered n c ≡ Some a → a.wake ≡ Some key.at → KeepsEffect key w (w.of (wake_key key.at a)) c (told key n told_by.Wake c)
-  wake_keeps n c a s h now =
+  pub wake_keeps : (n : ℕ) (st : Standing) (c : Core) (a : Actor) → IsSound c → actor_numbered n c ≡ Some a → a.wake ≡ Some key.at → KeepsEffect key w (w.of (wake_key key.at a)) c (told key n (told_by.Wake st) c)
+  wake_keeps n st c a s h now =
       let gone : ℕ = w.of (wake_key key.at a) in
-      let x : Act × Actor = next a key.at told_by.Wake in
-      let t = turn_stands gone n told_by.Wake c a s h (inr (now, refl)) in
-      subst (λ (o : Option Actor). KeepsEffect key w gone c (acts_found (acts_most 2 key n) key told_by.Wake c o)) (sym h)
-      (next_goes key (moves c gone) (acts_most 2 key n) tt c x.0 x.1 (most_goes key (moves c gone) 2 n) t.0 t.1 (turn_keeps gone n told_by.Wake c a s h (inr (now, refl))))
+      let x : Act × Actor = next a key.at (told_by.Wake st) in
+      let t = turn_stands gone n (told_by.Wake st) c a s h (inr (now, refl)) in
+      subst (λ (o : Option Actor). KeepsEffect key w gone c (acts_found (acts_most 2 key n) key (told_by.Wake st) c o)) (sym h)
+      (next_goes key (moves c gone) (acts_most 2 key n) tt c x.0 x.1 (most_goes key (moves c gone) 2 n) t.0 t.1 (turn_keeps gone n (told_by.Wake st) c a s h (inr (now, refl))))
 
   pub polls_answered_keep : (ps : List Poll) (c : Core) → IsSound c → KeepsEffect key w 0 c (answer_polls key ps c)
   polls_answered_keep ps c s = polls_go key (moves c 0) (λ _ d h. without_keeps c 0 d h) ps tt c (same_core w c s)

@@ -18,7 +18,10 @@ use Rattle.sqs_model.specs.declared.agents.ActorSettings.{ActorSettings}
 use Rattle.sqs_model.specs.declared.agents.ConsumerSettings.{ConsumerSettings}
 use Rattle.sqs_model.specs.declared.agents.ProducerSettings.{ProducerSettings}
 use Rattle.sqs_model.specs.declared.agents.Role.{Role}
-use Rattle.sqs_model.specs.declared.agents.Role.TheVariants.{Consumer, Producer, Script}
+use Rattle.sqs_model.specs.declared.acts.Standing.{Standing}
+use Rattle.sqs_model.specs.declared.agents.ScalerSettings.{ScalerSettings}
+use Rattle.sqs_model.specs.declared.agents.Scaling.{Scaling}
+use Rattle.sqs_model.specs.declared.agents.Role.TheVariants.{Consumer, Producer, Scaler, Script}
 use Rattle.sqs_redrive.specs.declared.answers.Deleted.{Deleted}
 use Rattle.sqs_redrive.specs.declared.answers.Got.{Got}
 use Rattle.sqs_redrive.specs.declared.answers.Sent.{Sent}
@@ -27,7 +30,7 @@ use Rattle.sqs_redrive.specs.declared.settings.Kind.TheVariants.{Fifo, Standard}
 use Rattle.sqs_redrive.specs.declared.settings.Policy.{Policy}
 use Rattle.sqs_redrive.specs.declared.transfers.Load.{Load}
 use Rattle.sqs_redrive.specs.declared.transfers.Outbound.{Outbound}
-use Rattle.sqs_model.specs.Actor.{Actor, Asked, Beat, Ended, Failed, Gathered, Served, LastAct, act_of, backoff_at, backoff_drawn, consumer_told, consumer_wake, got_more, has_come, has_failed, next, next_as, producer_wake, script_wake, woken}
+use Rattle.sqs_model.specs.Actor.{Actor, Asked, Beat, Decided, Ended, Failed, Gathered, Parked, Read, Served, LastAct, act_of, backoff_at, backoff_drawn, consumer_told, consumer_wake, copies_after, copy_rests, copy_wake, got_more, has_come, has_failed, has_nothing, is_parked, is_wanted, next, next_as, producer_wake, reads, scaler_wake, scales, script_wake, wanted_for, woken}
 use Rattle.std.specs.List.{list_any}
 use Rattle.sim_clock.specs.declared.refusal.Refusal.TheVariants as refusals
 use Rattle.sqs_message.specs.declared.row.RowAnswer.TheVariants as answers
@@ -55,7 +58,7 @@ IsLeft a x = (x ≡ a) ⊎ (x ≡ polled a)
 
 -- what an act may answer: anything but a wake
 abbrev IsAnswer : Answer → Type 0
-IsAnswer told_by.Wake = ⊥
+IsAnswer (told_by.Wake st) = ⊥
 IsAnswer (told_by.Got gots) = Unit {0}
 IsAnswer told_by.Waiting = Unit {0}
 IsAnswer told_by.Other = Unit {0}
@@ -162,6 +165,7 @@ act_leaves key a c (acts.Prolong text timeout) = change_leaves key a c text (unw
 act_leaves key a c (acts.Start task) = start_leaves key a c task (task_numbered task c)
 act_leaves key a c (acts.Cancel task) = cancel_leaves key a c task (task_numbered task c)
 act_leaves key a c (acts.Serve id r failed forwards) = serve_leaves key a c id r failed forwards
+act_leaves key a c (acts.Scale from to) = record { actors = inl refl; answer = tt }
 act_leaves key a c acts.Nothing = record { actors = inl refl; answer = tt }
 
 -- the actor of a site that acted is as its decision left it, but for its polls
@@ -235,13 +239,13 @@ stage_left a x (inl e) = ap (λ (y : Actor). y.last_act) e
 stage_left a x (inr e) = ap (λ (y : Actor). y.last_act) e
 
 script_over : (more : Actor → Answer → Type 0) (s : List ScriptCall) (now : ℕ) (x : Actor) (w : Answer) → IsAnswer w → IsOverAfter more (next_as (Script s) x now w)
-script_over more s now x told_by.Wake h = absurd h
+script_over more s now x (told_by.Wake st) h = absurd h
 script_over more s now x (told_by.Got gots) h = tt
 script_over more s now x told_by.Waiting h = tt
 script_over more s now x told_by.Other h = tt
 
 producer_over : (more : Actor → Answer → Type 0) (p : ProducerSettings) (now : ℕ) (x : Actor) (w : Answer) → IsAnswer w → IsOverAfter more (next_as (Producer p) x now w)
-producer_over more p now x told_by.Wake h = absurd h
+producer_over more p now x (told_by.Wake st) h = absurd h
 producer_over more p now x (told_by.Got gots) h = tt
 producer_over more p now x told_by.Waiting h = tt
 producer_over more p now x told_by.Other h = either (λ (y : Act × Actor). IsOverAfter more y) (nat_lt x.wakes p.count) _ _ tt tt
@@ -259,6 +263,9 @@ IsIdle (Served r) = ⊥
 IsIdle Ended = Unit {0}
 IsIdle Failed = ⊥
 IsIdle Beat = Unit {0}
+IsIdle Parked = Unit {0}
+IsIdle (Decided copies changed) = Unit {0}
+IsIdle (Read copies changed visible) = Unit {0}
 
 idle_over : (more : Actor → Answer → Type 0) (c : ConsumerSettings) (now : ℕ) (x : Actor) (s : LastAct) → IsIdle s → IsOverAfter more (consumer_told x c now s)
 idle_over more c now x Asked h = tt
@@ -267,9 +274,12 @@ idle_over more c now x (Served r) h = absurd h
 idle_over more c now x Ended h = tt
 idle_over more c now x Failed h = absurd h
 idle_over more c now x Beat h = tt
+idle_over more c now x Parked h = tt
+idle_over more c now x (Decided copies changed) h = tt
+idle_over more c now x (Read copies changed visible) h = tt
 
 consumer_over : (more : Actor → Answer → Type 0) (c : ConsumerSettings) (now : ℕ) (x : Actor) (w : Answer) → IsIdle x.last_act → IsAnswer w → IsOverAfter more (next_as (Consumer c) x now w)
-consumer_over more c now x told_by.Wake i h = absurd h
+consumer_over more c now x (told_by.Wake st) i h = absurd h
 consumer_over more c now x (told_by.Got gots) i h = got_over more c now x x.held gots
 consumer_over more c now x told_by.Waiting i h = tt
 consumer_over more c now x told_by.Other i h = idle_over more c now x x.last_act i
@@ -295,9 +305,12 @@ told_over k now c x (Served r) e =
 told_over k now c x Ended e = tt
 told_over k now c x Failed e = failed_over k now c x x.failed e
 told_over k now c x Beat e = tt
+told_over k now c x Parked e = tt
+told_over k now c x (Decided copies changed) e = tt
+told_over k now c x (Read copies changed visible) e = tt
 
 answer_over : (k now : ℕ) (c : ConsumerSettings) (x : Actor) (w : Answer) → x.settings.role ≡ Consumer c → IsAnswer w → IsOver (suc (suc k)) now x w
-answer_over k now c x told_by.Wake e h = absurd h
+answer_over k now c x (told_by.Wake st) e h = absurd h
 answer_over k now c x (told_by.Got gots) e h = over_by (suc k) now x (told_by.Got gots) (Consumer c) e (got_over (IsOver (suc k) now) c now x x.held gots)
 answer_over k now c x told_by.Waiting e h = over_by (suc k) now x told_by.Waiting (Consumer c) e tt
 answer_over k now c x told_by.Other e h = over_by (suc k) now x told_by.Other (Consumer c) e (told_over k now c x x.last_act e)
@@ -313,6 +326,36 @@ wake_over now c a gs e =
     let x : Act × Actor = consumer_wake a c now gs in
     acts_over (IsOver 2 now) x.0 x.1 (λ y w h l. answer_over 0 now c y w (role_left x.1 y l ∙ ap (λ (s : ActorSettings). s.role) (consumer_woke now a c gs).stays.settings ∙ e) h)
 
+copy_rests_over : (now : ℕ) (wanted : Bool) (s : Scaling) (c : ConsumerSettings) (a : Actor) (next : Option ℕ) → a.settings.role ≡ Consumer c → IsOverAfter (IsOver 2 now) (copy_rests wanted s a c now next)
+copy_rests_over now false s c a next e = tt
+copy_rests_over now true s c a next e = either (IsOverAfter (IsOver 2 now)) (is_parked a.last_act) _ _ tt (wake_over now c a a.held e)
+
+copy_over : (now : ℕ) (o : Option Scaling) (c : ConsumerSettings) (a : Actor) (st : Standing) → a.settings.role ≡ Consumer c → IsOverAfter (IsOver 2 now) (copy_wake o a c now st)
+copy_over now None c a st e = wake_over now c a a.held e
+copy_over now (Some s) c a st e =
+    either (IsOverAfter (IsOver 2 now)) (has_nothing a) _ _ (copy_rests_over now (is_wanted s st.number a) s c a st.next e) (wake_over now c a a.held e)
+
+-- a scaler
+scaler_over : (more : Actor → Answer → Type 0) (s : ScalerSettings) (now : ℕ) (x : Actor) (w : Answer) → IsAnswer w → IsOverAfter more (next_as (Scaler s) x now w)
+scaler_over more s now x (told_by.Wake st) h = absurd h
+scaler_over more s now x (told_by.Got gots) h = tt
+scaler_over more s now x told_by.Waiting h = tt
+scaler_over more s now x told_by.Other h = tt
+
+scales_over : (now : ℕ) (s : ScalerSettings) (a : Actor) (copies changed to : ℕ) → a.settings.role ≡ Scaler s → IsOverAfter (IsOver 2 now) (scales a s now copies changed to)
+scales_over now s a copies changed to e =
+    either (IsOverAfter (IsOver 2 now)) (to == copies) _ _ tt
+    (λ x w h l. over_by 1 now x w (Scaler s) (role_left _ x l ∙ e) (scaler_over (IsOver 1 now) s now x w h))
+
+reads_over : (now : ℕ) (s : ScalerSettings) (a : Actor) (copies changed visible : ℕ) → a.settings.role ≡ Scaler s → IsOverAfter (IsOver 2 now) (reads a s now copies changed visible)
+reads_over now s a copies changed visible e =
+    either (IsOverAfter (IsOver 2 now)) (s.reading == 0) _ _ (scales_over now s a copies changed (copies_after s now copies changed (wanted_for s visible)) e) tt
+
+scaler_wake_over : (now : ℕ) (s : ScalerSettings) (a : Actor) (visible : ℕ) (last : LastAct) → a.settings.role ≡ Scaler s → IsOverAfter (IsOver 2 now) (scaler_wake a s now visible last)
+scaler_wake_over now s a visible (Read copies changed before) e = scales_over now s a copies changed (copies_after s now copies changed (wanted_for s before)) e
+scaler_wake_over now s a visible (Decided copies changed) e = reads_over now s a copies changed visible e
+scaler_wake_over now s a visible last e = reads_over now s a s.least 0 visible e
+
 -- a producer that sends or stops
 sends_over : (now : ℕ) (p : ProducerSettings) (a : Actor) → a.settings.role ≡ Producer p → IsOverAfter (IsOver 2 now) (producer_wake a p now)
 sends_over now p a e =
@@ -326,9 +369,13 @@ calls_over now s a (c ∷ cs) e = acts_over (IsOver 2 now) (act_of c.call) _ (λ
 
 -- any actor that is told anything
 three_as : (now : ℕ) (a : Actor) (w : Answer) (r : Role) → a.settings.role ≡ r → IsOver 3 now a w
-three_as now a told_by.Wake (Script s) e = over_by 2 now a told_by.Wake (Script s) e (calls_over now s a (drop a.wakes s) e)
-three_as now a told_by.Wake (Producer p) e = over_by 2 now a told_by.Wake (Producer p) e (sends_over now p a e)
-three_as now a told_by.Wake (Consumer c) e = over_by 2 now a told_by.Wake (Consumer c) e (wake_over now c (woken a) a.held e)
+three_as now a (told_by.Wake st) (Script s) e = over_by 2 now a (told_by.Wake st) (Script s) e (calls_over now s a (drop a.wakes s) e)
+three_as now a (told_by.Wake st) (Producer p) e = over_by 2 now a (told_by.Wake st) (Producer p) e (sends_over now p a e)
+three_as now a (told_by.Wake st) (Consumer c) e = over_by 2 now a (told_by.Wake st) (Consumer c) e (copy_over now c.scaling c (woken a) st e)
+three_as now a (told_by.Wake st) (Scaler s) e = over_by 2 now a (told_by.Wake st) (Scaler s) e (scaler_wake_over now s (woken a) st.number a.last_act e)
+three_as now a (told_by.Got gots) (Scaler s) e = over_by 2 now a (told_by.Got gots) (Scaler s) e tt
+three_as now a told_by.Waiting (Scaler s) e = over_by 2 now a told_by.Waiting (Scaler s) e tt
+three_as now a told_by.Other (Scaler s) e = over_by 2 now a told_by.Other (Scaler s) e tt
 three_as now a (told_by.Got gots) (Script s) e = over_by 2 now a (told_by.Got gots) (Script s) e tt
 three_as now a (told_by.Got gots) (Producer p) e = over_by 2 now a (told_by.Got gots) (Producer p) e tt
 three_as now a (told_by.Got gots) (Consumer c) e = answer_over 1 now c a (told_by.Got gots) e tt

@@ -13,7 +13,7 @@ use Rattle.sqs_redrive.specs.declared.transfers.Outbound.{Outbound}
 use Rattle.sqs_model.specs.declared.agents.ActorSettings.{ActorSettings}
 use Rattle.sqs_model.specs.declared.agents.Forwarding.{Forwarding}
 use Rattle.sqs_model.specs.declared.agents.Role.{Role}
-use Rattle.sqs_model.specs.declared.agents.Role.TheVariants.{Consumer, Producer, Script}
+use Rattle.sqs_model.specs.declared.agents.Role.TheVariants.{Consumer, Producer, Scaler, Script}
 use Rattle.sqs_model.specs.Progress.{IsSoundForward, IsSoundPolicy, IsSoundRole, IsSoundScenario, IsSoundSettings, TakesTime}
 use Rattle.sqs_model.specs.Scenario.{Scenario, edge, edges, forward_edges, leads_to, numbered_actors, numbered_tasks, opening_actor, opening_core, opening_site, opening_task, policy_edges, role_edges, task_edges, task_goals}
 use Rattle.sqs_model.proofs.Members.{From, In, all_in, in_append, in_flat, in_left, in_map, in_right, into_filter, into_flat, into_map, of_all}
@@ -126,6 +126,7 @@ module _ (s : Scenario) where
   role_ways : (a : ActorSettings) (r : Role) → In s.actors a → a.role ≡ r → HasRoleWays (edges s) a.home r
   role_ways a (Script script) h e = tt
   role_ways a (Producer p) h e = tt
+  role_ways a (Scaler z) h e = tt
   role_ways a (Consumer c) h e = over_ways a c.forward h (λ x i. subst (λ r. In (role_edges a.home r) x) (sym e) i)
 
   task_way : (t : TaskSettings) (o : Option ℕ) → In s.tasks t → t.to ≡ o → (d : ℕ) → MayMoveTo (Leads s) t.home o d → In (edges s) (edge t.home d t.latency)
@@ -188,6 +189,7 @@ module _ (s : Scenario) where
   role_least : (n : ℕ) (r : Role) (e : Edge) → IsSoundRole r → In (role_edges n r) e → 1 ≤ e.least
   role_least n (Script script) e h i = absurd i
   role_least n (Producer p) e h i = absurd i
+  role_least n (Scaler z) e h i = absurd i
   role_least n (Consumer c) e h i = forward_least n c.forward e h.2 i
 
   task_least : (t : TaskSettings) (e : Edge) → TakesTime t.latency → In (task_edges s t) e → 1 ≤ e.least

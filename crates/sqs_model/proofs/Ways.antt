@@ -14,7 +14,7 @@ use Rattle.sqs_model.specs.declared.acts.Answer.{Answer}
 use Rattle.sqs_model.specs.declared.agents.ActorSettings.{ActorSettings}
 use Rattle.sqs_model.specs.declared.agents.Forwarding.{Forwarding}
 use Rattle.sqs_model.specs.declared.agents.Role.{Role}
-use Rattle.sqs_model.specs.declared.agents.Role.TheVariants.{Consumer, Producer, Script}
+use Rattle.sqs_model.specs.declared.agents.Role.TheVariants.{Consumer, Producer, Scaler, Script}
 use Rattle.sqs_redrive.specs.declared.answers.Deleted.{Deleted}
 use Rattle.sqs_redrive.specs.declared.answers.Deleted.TheVariants.{Gone, Kept as KeptThere, Removed}
 use Rattle.sqs_redrive.specs.declared.answers.Rest.{Rest}
@@ -255,6 +255,7 @@ module _ (edges : List Edge) (home : ℕ → ℕ) (leads : ℕ → ℕ → Type 
   role_ways : (r : Role) → HasRoleWays edges site r → HasForwardWays edges site (forward_of r)
   role_ways (Script script) h = tt
   role_ways (Producer p) h = tt
+  role_ways (Scaler z) h = tt
   role_ways (Consumer c) h = h
 
   next_over : (a : Actor) (w : Answer) → FineActor a → SendsOver (next a key.at w).0

@@ -1,7 +1,8 @@
 -- Scripts, producers and consumers: what an actor does next, and when it wakes.
 use Rattle.std.specs.Fmt.{decimal}
 use Rattle.std.specs.List.{list_any}
-use Rattle.std.specs.Prelude.{Bool, List, None, Option, Some, [], drop, false, get_or, if◌then◌else◌, length, max, min, nat_le, nat_lt, take, true, ℕ, ◌%◌, ◌&&◌, ◌*◌, ◌++◌, ◌+◌, ◌-◌, ◌/◌, ◌||◌, ◌∷◌}
+use Rattle.sim_clock.specs.Firsts.{is_empty}
+use Rattle.std.specs.Prelude.{Bool, List, None, Option, Some, [], drop, false, get_or, if◌then◌else◌, length, max, min, nat_le, nat_lt, take, true, ℕ, ◌%◌, ◌&&◌, ◌*◌, ◌++◌, ◌+◌, ◌-◌, ◌/◌, ◌==◌, ◌||◌, ◌∷◌}
 use Rattle.sqs_message.specs.Bodies.{contains, filled}
 use Rattle.sqs_message.specs.declared.calls.Call.{Call}
 use Rattle.sqs_message.specs.declared.calls.ScriptCall.{ScriptCall}
@@ -16,10 +17,13 @@ use Rattle.sqs_model.specs.declared.agents.Groups.TheVariants.{ByWeight, InTurn}
 use Rattle.sqs_model.specs.declared.agents.ProducerSettings.{ProducerSettings}
 use Rattle.sqs_model.specs.declared.agents.Role.{Role}
 use Rattle.sqs_model.specs.declared.agents.Outage.{Outage}
+use Rattle.sqs_model.specs.declared.acts.Standing.{Standing}
+use Rattle.sqs_model.specs.declared.agents.ScalerSettings.{ScalerSettings}
+use Rattle.sqs_model.specs.declared.agents.Scaling.{Scaling}
 use Rattle.sqs_model.specs.declared.agents.Serving.{Serving}
 use Rattle.sqs_model.specs.declared.agents.Serving.TheVariants.{Each, Once}
 use Rattle.sqs_model.specs.declared.agents.Stretch.{Stretch}
-use Rattle.sqs_model.specs.declared.agents.Role.TheVariants.{Consumer, Producer, Script}
+use Rattle.sqs_model.specs.declared.agents.Role.TheVariants.{Consumer, Producer, Scaler, Script}
 use Rattle.sqs_redrive.specs.declared.answers.Got.{Got}
 use Rattle.sqs_redrive.specs.declared.settings.Latency.{Latency}
 use Rattle.sqs_redrive.specs.declared.transfers.Outbound.{Outbound}
@@ -31,7 +35,9 @@ use Rattle.sqs_redrive.specs.declared.transfers.Load.TheVariants as loads
 use Rattle.sqs_model.specs.declared.acts.Answer.TheVariants as told_by
 
 -- what a consumer did last: it asked for messages, asked for more while it holds some, served one, ended a service or did
--- what follows one, failed to serve one, or set a visibility timeout anew while it serves
+-- what follows one, failed to serve one, set a visibility timeout anew while it serves, or asks no more until its scaler
+-- says so; what a scaler did last: it decided that so many copies ask, which last changed at that moment, or read how
+-- many messages are visible and waits to decide by that
 pub data LastAct : Type 0 where
   Asked : LastAct
   Gathered : LastAct
@@ -39,6 +45,9 @@ pub data LastAct : Type 0 where
   Ended : LastAct
   Failed : LastAct
   Beat : LastAct
+  Parked : LastAct
+  Decided : ℕ → ℕ → LastAct
+  Read : ℕ → ℕ → ℕ → LastAct
 
 -- an actor: the messages that it holds and has not served; those that it served and will delete when all of their
 -- receive are served; those whose timeouts it will change since a service failed; when the service ends, or before it the
@@ -344,6 +353,78 @@ abbrev pub consumer_wake : Actor → ConsumerSettings → ℕ → List Got → A
 consumer_wake a c now [] = rests a c now a.failed a.done
 consumer_wake a c now (g ∷ gs) = if is_gathering a.last_act then asks_for_more a c now else serves_on a c now g gs
 
+-- whether a copy is one of so many that are to ask
+abbrev pub is_wanted : Scaling → ℕ → Actor → Bool
+is_wanted s copies a = nat_lt (a.number - s.first) copies
+
+-- whether a consumer has nothing to serve, to delete or to change
+abbrev pub has_nothing : Actor → Bool
+has_nothing a = (is_empty a.held && is_empty a.failed) && is_empty a.done
+
+-- whether a copy asks no more, by what it did last
+abbrev pub is_parked : LastAct → Bool
+is_parked Parked = true
+is_parked last = false
+
+-- when a copy that is not to ask looks again: after the next decision of its scaler
+abbrev pub looks_again : ℕ → Option ℕ → Option ℕ
+looks_again now None = None
+looks_again now (Some next) = Some (max now next + 1)
+
+-- a copy that has nothing to do: if it is not to ask it sleeps; else it asks, at once or when it has started
+abbrev pub copy_rests : Bool → Scaling → Actor → ConsumerSettings → ℕ → Option ℕ → Act × Actor
+copy_rests false s a c now next = (acts.Nothing, record a { wake = looks_again now next; last_act = Parked })
+copy_rests true s a c now next =
+    if is_parked a.last_act then (acts.Nothing, record a { wake = Some (max (now + 1) (now + s.start)); last_act = Asked })
+    else consumer_wake a c now a.held
+
+-- a consumer that wakes goes by its scaler if it has one and nothing else to do
+abbrev pub copy_wake : Option Scaling → Actor → ConsumerSettings → ℕ → Standing → Act × Actor
+copy_wake None a c now st = consumer_wake a c now a.held
+copy_wake (Some s) a c now st =
+    if has_nothing a then copy_rests (is_wanted s st.number a) s a c now st.next else consumer_wake a c now a.held
+
+-- how many copies a scaler wants for so many visible messages: one for each target, within its bounds
+abbrev pub wanted_for : ScalerSettings → ℕ → ℕ
+wanted_for s visible = min s.most (max s.least ((visible + (s.target - 1)) / s.target))
+
+-- how many copies there are after some were added or taken away: no more at once than it may, none in a cooldown
+abbrev pub copies_after : ScalerSettings → ℕ → ℕ → ℕ → ℕ → ℕ
+copies_after s now copies changed wanted =
+    if nat_lt copies wanted then (if nat_lt now (changed + s.cooldown_out) then copies else min wanted (copies + s.most_added))
+    else (if nat_lt now (changed + s.cooldown_in) then copies else max wanted (copies - s.most_taken))
+
+-- a scaler that decided; it reads again after its time
+abbrev pub has_decided : Actor → ScalerSettings → ℕ → ℕ → ℕ → Actor
+has_decided a s now copies changed = record a { wake = Some (now + (s.every - s.reading)); last_act = Decided copies changed }
+
+-- one that says how many copies are to ask: a change is an act
+abbrev pub scales : Actor → ScalerSettings → ℕ → ℕ → ℕ → ℕ → Act × Actor
+scales a s now copies changed to =
+    if to == copies then (acts.Nothing, has_decided a s now copies changed) else (acts.Scale copies to, has_decided a s now to now)
+
+-- one that goes by so many visible messages
+abbrev pub scales_for : Actor → ScalerSettings → ℕ → ℕ → ℕ → ℕ → Act × Actor
+scales_for a s now copies changed visible = scales a s now copies changed (copies_after s now copies changed (wanted_for s visible))
+
+-- one that reads how many are visible: it decides by that at once, or when the number is old enough
+abbrev pub reads : Actor → ScalerSettings → ℕ → ℕ → ℕ → ℕ → Act × Actor
+reads a s now copies changed visible =
+    if s.reading == 0 then scales_for a s now copies changed visible
+    else (acts.Nothing, record a { wake = Some (now + s.reading); last_act = Read copies changed visible })
+
+-- one that wakes; at first its least copies ask, as if that had changed at the start of the run
+abbrev pub scaler_wake : Actor → ScalerSettings → ℕ → ℕ → LastAct → Act × Actor
+scaler_wake a s now visible (Read copies changed before) = scales_for a s now copies changed before
+scaler_wake a s now visible (Decided copies changed) = reads a s now copies changed visible
+scaler_wake a s now visible last = reads a s now s.least 0 visible
+
+-- how many copies are to ask, by what their scaler did last
+abbrev pub copies_by : ScalerSettings → LastAct → ℕ
+copies_by s (Read copies changed visible) = copies
+copies_by s (Decided copies changed) = copies
+copies_by s last = s.least
+
 -- how long a consumer that gathers rests after a receive: not at all if it gave messages
 abbrev pub rest_after : ℕ → List Got → ℕ
 rest_after idle [] = idle
@@ -381,21 +462,26 @@ consumer_told a c now (Served receipt) = (acts.Delete (receipt_text receipt), re
 consumer_told a c now Ended = (acts.Nothing, serving a c now a.held)
 consumer_told a c now Failed = has_failed a c now a.failed
 consumer_told a c now Beat = (acts.Nothing, in_service a c now)
+consumer_told a c now last = (acts.Nothing, a)
 
 -- what an actor of a role does when it gets an answer
 abbrev pub next_as : Role → Actor → ℕ → Answer → Act × Actor
-next_as (Script script) a now told_by.Wake = script_wake a (drop a.wakes script)
+next_as (Script script) a now (told_by.Wake st) = script_wake a (drop a.wakes script)
 next_as (Script script) a now (told_by.Got gots) = (acts.Nothing, a)
 next_as (Script script) a now told_by.Waiting = (acts.Nothing, a)
 next_as (Script script) a now told_by.Other = (acts.Nothing, a)
-next_as (Producer p) a now told_by.Wake = producer_wake a p now
+next_as (Producer p) a now (told_by.Wake st) = producer_wake a p now
 next_as (Producer p) a now (told_by.Got gots) = (acts.Nothing, a)
 next_as (Producer p) a now told_by.Waiting = (acts.Nothing, a)
 next_as (Producer p) a now told_by.Other = producer_sent a p now
-next_as (Consumer c) a now told_by.Wake = consumer_wake (woken a) c now a.held
+next_as (Consumer c) a now (told_by.Wake st) = copy_wake c.scaling (woken a) c now st
 next_as (Consumer c) a now (told_by.Got gots) = consumer_got a c now gots
 next_as (Consumer c) a now told_by.Waiting = (acts.Nothing, a)
 next_as (Consumer c) a now told_by.Other = consumer_told a c now a.last_act
+next_as (Scaler s) a now (told_by.Wake st) = scaler_wake (woken a) s now st.number a.last_act
+next_as (Scaler s) a now (told_by.Got gots) = (acts.Nothing, a)
+next_as (Scaler s) a now told_by.Waiting = (acts.Nothing, a)
+next_as (Scaler s) a now told_by.Other = (acts.Nothing, a)
 
 -- the next act of an actor that gets an answer, and the actor after it
 unfoldable pub next : Actor → ℕ → Answer → Act × Actor

@@ -246,6 +246,10 @@ serve_made key a c id receipt true forwards =
     made (says c (row key c a.number kinds.Fail answers.Ok (Some id) (receipts.Made receipt) details.Absent)) told_by.Other
 serve_made key a c id receipt false forwards = made (forwards_made key a id forwards c) told_by.Other
 
+-- the row of a scaler that changes how many copies ask
+abbrev pub scale_row : Key → Actor → Core → ℕ → ℕ → Row
+scale_row key a c from to = row key c a.number kinds.Scale answers.Ok None receipts.Absent (details.Copies from to)
+
 -- an act of an actor at its site
 unfoldable pub act_made : Key → Actor → Core → Act → Made
 act_made key a c (acts.Send body delay group id) =
@@ -258,4 +262,5 @@ act_made key a c (acts.Prolong text timeout) =
 act_made key a c (acts.Start task) = start_made key a c task (task_numbered task c)
 act_made key a c (acts.Cancel task) = cancel_made key a c task (task_numbered task c)
 act_made key a c (acts.Serve id receipt failed forwards) = serve_made key a c id receipt failed forwards
+act_made key a c (acts.Scale from to) = made (says c (scale_row key a c from to)) told_by.Other
 act_made key a c acts.Nothing = made (no_effect c) told_by.Other

@@ -5,7 +5,7 @@ use Rattle.sim_clock.specs.declared.key.Key.{Key}
 pub use Rattle.sim_engine.specs.Members.{Ascends, count_due}
 use Rattle.sqs_model.specs.declared.agents.Forwarding.{Forwarding}
 use Rattle.sqs_model.specs.declared.agents.Role.{Role}
-use Rattle.sqs_model.specs.declared.agents.Role.TheVariants.{Consumer, Producer, Script}
+use Rattle.sqs_model.specs.declared.agents.Role.TheVariants.{Consumer, Producer, Scaler, Script}
 use Rattle.sqs_model.specs.declared.agents.Distribution.{Distribution}
 use Rattle.sqs_model.specs.declared.agents.Distribution.TheVariants.{Quantiles, Uniform}
 use Rattle.sqs_redrive.specs.declared.settings.Latency.{Latency}
@@ -51,11 +51,12 @@ abbrev pub IsSoundDistribution : Distribution → Type 0
 IsSoundDistribution (Uniform low high) = 1 ≤ low
 IsSoundDistribution (Quantiles quantiles) = All (λ q. 1 ≤ q.time) quantiles
 
--- a script's calls have ascending times, and an actor that wakes by a draw or after a rest does so later
+-- a script's calls have ascending times; an actor that wakes by a draw or after a rest does so later, and so does a scaler
 abbrev pub IsSoundRole : Role → Type 0
 IsSoundRole (Script script) = Ascends (λ c. c.at) 0 script
 IsSoundRole (Producer p) = IsSoundDistribution p.gap
 IsSoundRole (Consumer c) = IsSoundDistribution c.service × (1 ≤ c.idle) × IsSoundForward c.forward
+IsSoundRole (Scaler s) = s.reading < s.every
 
 -- a scenario in which time moves on
 pub record IsSoundScenario (s : Scenario) : Type 0 where
@@ -74,6 +75,7 @@ abbrev pub WakesFor : Role → Actor → Type 0
 WakesFor (Script script) a = a.wake ≡ first_at (drop a.wakes script)
 WakesFor (Producer p) a = Unit {0}
 WakesFor (Consumer c) a = Unit {0}
+WakesFor (Scaler s) a = Unit {0}
 
 -- an actor of a sound role
 pub record IsSoundActor (a : Actor) : Type 0 where

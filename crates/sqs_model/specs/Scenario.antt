@@ -4,7 +4,7 @@ use Rattle.std.specs.Prelude.{All, Bool, List, None, Option, Some, [], false, fi
 use Rattle.sqs_model.specs.declared.agents.ActorSettings.{ActorSettings}
 use Rattle.sqs_model.specs.declared.agents.Forwarding.{Forwarding}
 use Rattle.sqs_model.specs.declared.agents.Role.{Role}
-use Rattle.sqs_model.specs.declared.agents.Role.TheVariants.{Consumer, Producer, Script}
+use Rattle.sqs_model.specs.declared.agents.Role.TheVariants.{Consumer, Producer, Scaler, Script}
 use Rattle.sim_engine.specs.declared.edge.Edge.{Edge}
 use Rattle.sqs_redrive.specs.declared.settings.Latency.{Latency}
 use Rattle.sqs_redrive.specs.declared.settings.Policy.{Policy}
@@ -40,6 +40,7 @@ abbrev pub first_wake : Role → Option ℕ
 first_wake (Script script) = first_at script
 first_wake (Producer p) = Some p.start
 first_wake (Consumer c) = Some c.start
+first_wake (Scaler s) = Some s.start
 
 -- an actor that has done nothing, under a seed
 abbrev pub opening_actor : ℕ → ℕ × ActorSettings → Actor
@@ -118,6 +119,7 @@ abbrev pub role_edges : ℕ → Role → List Edge
 role_edges n (Script script) = []
 role_edges n (Producer p) = []
 role_edges n (Consumer c) = forward_edges n c.forward
+role_edges n (Scaler s) = []
 
 -- whether a policy leads to a queue
 abbrev pub leads_to : ℕ → Option Policy → Bool

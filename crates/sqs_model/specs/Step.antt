@@ -17,13 +17,18 @@ use Rattle.sim_clock.specs.Firsts.{without}
 use Rattle.sim_clock.specs.Order.{same_key}
 use Rattle.sim_engine.specs.Engine.{Handled as HandledBy}
 use Rattle.sqs_model.specs.Acts.{came_back, receive_row, row}
+use Rattle.sqs_model.specs.declared.acts.Standing.{Standing}
+use Rattle.sqs_model.specs.declared.agents.Role.{Role}
+use Rattle.sqs_model.specs.declared.agents.Role.TheVariants.{Consumer, Scaler}
+use Rattle.sqs_model.specs.declared.agents.Scaling.{Scaling}
+use Rattle.sqs_model.specs.Actor.{Actor, copies_by}
 use Rattle.sqs_model.specs.Arrive.{arrived, expired}
 use Rattle.sqs_model.specs.Draw.{Draws, drawn_latency}
 use Rattle.sqs_model.specs.Dues.{poll_key}
 use Rattle.sqs_model.specs.Polls.{answer_polls, told}
 use Rattle.sqs_model.specs.Queue.{Queue, id_of, in_flight, is_delayed, is_visible}
 use Rattle.sqs_model.specs.Return.{released}
-use Rattle.sqs_model.specs.Site.{Core, Effect, Poll, Site, and_then, has_key, no_effect, number_of, says, task_numbered, with_queue, with_task}
+use Rattle.sqs_model.specs.Site.{Core, Effect, Poll, Site, actor_numbered, and_then, has_key, no_effect, number_of, says, task_numbered, with_queue, with_task}
 use Rattle.sqs_model.specs.Task.{Task, take_movable}
 use Rattle.sqs_redrive.specs.MoveTasks.{task_stepped}
 use Rattle.sqs_message.specs.declared.row.RowAnswer.TheVariants as answers
@@ -100,9 +105,39 @@ handle_poll_end key c =
     and_then (says (record c { polls = without (ends_at key) c.polls }) (receive_row key c key.agent answers.Empty))
     (told key key.agent (told_by.Got []))
 
+-- nothing to go by
+abbrev pub no_standing : Standing
+no_standing = record { number = 0; next = None }
+
+-- how many copies a scaler lets ask, and when it wakes next
+abbrev pub standing_as : Role → Actor → Standing
+standing_as (Scaler s) a = record { number = copies_by s a.last_act; next = a.wake }
+standing_as role a = no_standing
+
+-- the same if it is there
+abbrev pub standing_of : Option Actor → Standing
+standing_of None = no_standing
+standing_of (Some a) = standing_as a.settings.role a
+
+-- what a copy goes by
+abbrev pub copy_standing : Core → Option Scaling → Standing
+copy_standing c None = no_standing
+copy_standing c (Some s) = standing_of (actor_numbered s.scaler c)
+
+-- what an actor of a role goes by when it wakes
+abbrev pub wakes_by : Core → Role → Standing
+wakes_by c (Scaler s) = record { number = count_by is_visible c.queue.records; next = None }
+wakes_by c (Consumer k) = copy_standing c k.scaling
+wakes_by c role = no_standing
+
+-- what an actor goes by, if it is there
+abbrev pub woken_by : Core → Option Actor → Standing
+woken_by c None = no_standing
+woken_by c (Some a) = wakes_by c a.settings.role
+
 -- an actor wakes
 abbrev pub handle_wake : Key → Core → Effect
-handle_wake key c = told key key.agent told_by.Wake c
+handle_wake key c = told key key.agent (told_by.Wake (woken_by c (actor_numbered key.agent c))) c
 
 -- a queue's counts are sampled
 abbrev pub handle_sample : Key → Core → Effect

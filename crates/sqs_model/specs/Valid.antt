@@ -9,6 +9,8 @@ use Rattle.sqs_model.specs.declared.agents.ProducerSettings.{ProducerSettings}
 use Rattle.sqs_model.specs.declared.agents.Quantile.{Quantile}
 use Rattle.sqs_model.specs.declared.agents.Distribution.{Distribution}
 use Rattle.sqs_model.specs.declared.agents.Distribution.TheVariants.{Quantiles, Uniform}
+use Rattle.sqs_model.specs.declared.agents.ScalerSettings.{ScalerSettings}
+use Rattle.sqs_model.specs.declared.agents.Scaling.{Scaling}
 use Rattle.sqs_model.specs.declared.agents.Serving.{Serving}
 use Rattle.sqs_model.specs.declared.agents.Serving.TheVariants.{Each, Once}
 use Rattle.sqs_model.specs.declared.agents.WeightedGroup.{WeightedGroup}
@@ -157,6 +159,25 @@ pub record IsOutage (o : Outage) : Type 0 where
   pub ends : o.stretch.to ≤ 2592000000
   pub failures : o.permille ≤ 1000
 
+-- a copy that starts within a day, if there is a scaler
+abbrev pub MayBeScaling : Option Scaling → Type 0
+MayBeScaling None = Unit {0}
+MayBeScaling (Some s) = s.start ≤ 86400000
+
+-- a scaler that reads every second to every day, and decides by a number that is younger than that; it wants a copy for
+-- each 1 to 1,000,000 visible messages, from its least to its most copies, which are at most 1,000
+pub record IsScaler (s : ScalerSettings) : Type 0 where
+  pub start : s.start ≤ 2592000000
+  pub every : Between 1000 86400000 s.every
+  pub reading : s.reading < s.every
+  pub target : Between 1 1000000 s.target
+  pub ordered : s.least ≤ s.most
+  pub most : s.most ≤ 1000
+  pub most_added : Between 1 1000 s.most_added
+  pub most_taken : Between 1 1000 s.most_taken
+  pub cooldown_out : s.cooldown_out ≤ 86400000
+  pub cooldown_in : s.cooldown_in ≤ 86400000
+
 -- a consumer that asks for 1 to 10 messages and waits for at most 20 seconds
 pub record IsConsumer (c : ConsumerSettings) : Type 0 where
   pub start : c.start ≤ 2592000000
@@ -171,6 +192,7 @@ pub record IsConsumer (c : ConsumerSettings) : Type 0 where
   pub idle : Between 1 86400000 c.idle
   pub forward : MayBeForward c.forward
   pub stop : MayBeMoment c.stop
+  pub scaling : MayBeScaling c.scaling
   pub outages : All IsOutage c.outages
   pub backoff : All (λ s. s ≤ longest_timeout) c.backoff
   pub heartbeat : MayBeHeartbeat c.heartbeat

@@ -17,7 +17,7 @@ use Rattle.sqs_redrive.specs.declared.transfers.Load.TheVariants as loads
 use Rattle.sqs_redrive.specs.declared.transfers.Outbound.{Outbound}
 use Rattle.sqs_model.specs.declared.agents.Forwarding.{Forwarding}
 use Rattle.sqs_model.specs.declared.agents.Role.{Role}
-use Rattle.sqs_model.specs.declared.agents.Role.TheVariants.{Consumer, Producer, Script}
+use Rattle.sqs_model.specs.declared.agents.Role.TheVariants.{Consumer, Producer, Scaler, Script}
 use Rattle.sqs_model.specs.Actor.{Actor}
 use Rattle.sqs_model.specs.Queue.{Queue}
 use Rattle.sqs_model.specs.Site.{Core, Site, accepted, number_of}
@@ -39,6 +39,7 @@ abbrev pub HasRoleWays : List Edge → ℕ → Role → Type 0
 HasRoleWays edges site (Script script) = Unit {0}
 HasRoleWays edges site (Producer p) = Unit {0}
 HasRoleWays edges site (Consumer c) = HasForwardWays edges site c.forward
+HasRoleWays edges site (Scaler s) = Unit {0}
 
 -- whether a task may move messages to a queue: to its destination, or without one to a queue that leads to its own
 abbrev pub MayMoveTo : (ℕ → ℕ → Type 0) → ℕ → Option ℕ → ℕ → Type 0

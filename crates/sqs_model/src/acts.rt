@@ -4,11 +4,20 @@ use sqs_message::{Body, Call, MessageId, Receipt, ReceiptHandle, Text};
 use sqs_redrive::Batch;
 use std::alloc::{AllocError, Global};
 
+/// What an actor that scales or is scaled goes by when it wakes. Others go by nothing.
+#[derive(Clone, Copy, Debug, PartialEq, Eq)]
+pub struct Standing {
+    /// To a scaler, how many messages of its queue are visible. To a copy, how many copies are to ask.
+    pub number: u64,
+    /// To a copy, when its scaler wakes next, in milliseconds.
+    pub next: Option<u64>,
+}
+
 /// An answer that an actor gets.
 #[derive(Drop)]
 pub enum Answer {
     /// Its wake has come.
-    Wake,
+    Wake(Standing),
     /// The messages that its receive gave; none at the end of a long poll that found nothing.
     Got(Batch),
     /// Its receive waits.
@@ -56,6 +65,11 @@ pub enum Act {
         receipt: Receipt,
         failed: bool,
         forwards: Outbounds,
+    },
+    /// A scaler changes how many copies of a consumer ask for messages.
+    Scale {
+        from: u64,
+        to: u64,
     },
     Nothing,
 }

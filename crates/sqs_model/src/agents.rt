@@ -92,6 +92,18 @@ pub struct Forwarding {
     pub latency: Latency,
 }
 
+/// By whom a consumer's copies are scaled.
+#[derive(Clone, Copy, Debug, PartialEq, Eq)]
+pub struct Scaling {
+    /// The number of the scaler, an actor at the same queue.
+    pub scaler: u32,
+    /// The number of the first of the copies. So many of them ask, from the first on, as the scaler
+    /// says.
+    pub first: u32,
+    /// How long a copy that did not ask takes until it asks, in milliseconds.
+    pub start: u64,
+}
+
 /// Settings of a consumer, which receives, serves and deletes messages. Times are milliseconds, but
 /// wait and timeout are in seconds.
 #[derive(Drop)]
@@ -119,6 +131,8 @@ pub struct ConsumerSettings {
     pub forward: Option<Forwarding>,
     /// From when on it asks for nothing.
     pub stop: Option<u64>,
+    /// By whom it is scaled, if it is.
+    pub scaling: Option<Scaling>,
     /// The text that makes a service fail if the message's body contains it.
     pub fails_on: Option<Text>,
     /// When services that are decided fail with another chance. The first that has a moment counts.
@@ -134,12 +148,39 @@ pub struct ConsumerSettings {
     pub heartbeat: Option<u64>,
 }
 
+/// Settings of a scaler, which says how many copies of consumers at its queue ask for messages. Times
+/// are milliseconds.
+#[derive(Clone, Copy, Debug, PartialEq, Eq)]
+pub struct ScalerSettings {
+    /// When it first reads how many messages are visible.
+    pub start: u64,
+    /// The time from one reading to the next.
+    pub every: u64,
+    /// How old a reading is when it decides by it, as numbers are that CloudWatch shows.
+    pub reading: u64,
+    /// How many visible messages it wants for each copy.
+    pub target: u64,
+    /// The fewest copies.
+    pub least: u64,
+    /// The most copies.
+    pub most: u64,
+    /// How many copies it adds at most at once.
+    pub most_added: u64,
+    /// How many it takes away at most at once.
+    pub most_taken: u64,
+    /// How long after a change, or after the start of the run, it adds none.
+    pub cooldown_out: u64,
+    /// How long it takes none away.
+    pub cooldown_in: u64,
+}
+
 /// The kind of an actor, with what it does.
 #[derive(Drop)]
 pub enum Role {
     Script(Script),
     Producer(ProducerSettings),
     Consumer(ConsumerSettings),
+    Scaler(ScalerSettings),
 }
 
 /// Settings of an actor.

@@ -10,10 +10,10 @@ mod laws;
 mod limits;
 mod outbounds;
 
-pub use acts::{Act, Answer};
+pub use acts::{Act, Answer, Standing};
 pub use agents::{
     ActorSettings, ConsumerSettings, Distribution, Forwarding, Groups, Outage, ProducerSettings,
-    Quantile, Role, Serving, Stretch, WeightedGroup,
+    Quantile, Role, ScalerSettings, Scaling, Serving, Stretch, WeightedGroup,
 };
 pub use finals::{
     FinalMessage, FinalMessages, FinalTask, FinalTasks, FinalTransfer, FinalTransfers, Finals,
