@@ -355,7 +355,7 @@ consumer_wake a c now (g ∷ gs) = if is_gathering a.last_act then asks_for_more
 
 -- whether a copy is one of so many that are to ask
 abbrev pub is_wanted : Scaling → ℕ → Actor → Bool
-is_wanted s copies a = nat_lt (a.number - s.first) copies
+is_wanted s copies a = nat_lt (a.number + 1 - s.second) copies
 
 -- whether a consumer has nothing to serve, to delete or to change
 abbrev pub has_nothing : Actor → Bool

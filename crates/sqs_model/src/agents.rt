@@ -97,9 +97,9 @@ pub struct Forwarding {
 pub struct Scaling {
     /// The number of the scaler, an actor at the same queue.
     pub scaler: u32,
-    /// The number of the first of the copies. So many of them ask, from the first on, as the scaler
-    /// says.
-    pub first: u32,
+    /// The number of the second of the copies; the first one has a lesser number, and the others
+    /// follow it. So many of them ask, from the first on, as the scaler says.
+    pub second: u32,
     /// How long a copy that did not ask takes until it asks, in milliseconds.
     pub start: u64,
 }
