@@ -1,7 +1,9 @@
-use Rattle.std.proofs.Common.{None, Option, Some, ap, false, refl, ◌∙◌, ◌∷◌, ◌≡◌, ℕ}
+use Rattle.std.proofs.Common.{Bool, None, Option, Some, ap, arith, false, refl, sym, ◌+◌, ◌∙◌, ◌∷◌, ◌≡◌, ℕ}
 use Rattle.std.specs.Option.{is_some}
 use Rattle.sqs_model.specs.declared.agents.ConsumerSettings.{ConsumerSettings}
 use Rattle.sqs_model.specs.Actor.{Actor, drawn_failure, outcome}
+use Rattle.sqs_model.specs.Draw.{Draws}
+use Rattle.sqs_model.proofs.ConsumerWakes.{ends_words}
 use Rattle.sim_actor.specs.Lives.{Life, lived}
 use Rattle.sim_actor.proofs.life.Life.end_service.Goals as goal
 
@@ -18,3 +20,14 @@ returns-clause-decision c s g gs at_home held =
     let ended = c.end_as-2.ensures.decision s g gs at_home still in
     let undecided = drawn_at_end c.args.consumer.now.fail_service (record (lived s c.args.self.now) { held = g ∷ gs }) c.args.consumer.now c.args.now c.if-is_some.ensures in
     rw (undecided ∙ drawn) (rw drew.framed at ended)
+
+pub returns-then-taken-eq-MOST_COUNT-clause-decision : goal.returns-then-taken-eq-MOST_COUNT-clause-decision
+returns-then-taken-eq-MOST_COUNT-clause-decision c s g gs at_home held =
+    let actor : Actor = record (lived s c.args.self.now) { held = gs } in
+    let whole : Actor = record actor { held = g ∷ gs } in
+    let drawn : Bool × Draws = outcome c.args.consumer.now.fail_service whole c.args.consumer.now c.args.now in
+    let ended = ends_words c.args.now c.args.consumer.now actor g drawn in
+    let words : drawn.1.taken ≡ c.args.self.now.draws.taken + 1 =
+    ap (λ (x : Bool × Draws). x.1.taken) (drawn_at_end c.args.consumer.now.fail_service whole c.args.consumer.now c.args.now c.if-is_some.ensures) in
+    let at_most = ap (λ (l : Life). l.draws.taken) (sym c.self.view_is) ∙ (sym c.taken.ensures ∙ c.if-taken-eq-MOST_COUNT.true) in
+    omega (arith, ended, words, at_most)
