@@ -63,6 +63,9 @@ pub record Woke (now : ℕ) (b : Actor) (wait : ℕ) (f : Option Forwarding) (x 
   pub act : IsServiceAct now b wait f x.0
 
 module _ (now : ℕ) (b : Actor) where
+  same_stays : Stays b b
+  same_stays = record { number = refl; settings = refl; wake = refl; wakes = refl; polls = refl; sent = omega arith; words = omega arith }
+
   -- what it holds, when its service ends and what it did last may change
   held_stays : (d : Actor) (held done failed : List Got) (ends : ℕ) (last_act : LastAct) → Stays b d → Stays b (record d { held = held; done = done; failed = failed; ends = ends; last_act = last_act })
   held_stays d held done failed ends last_act s =
@@ -157,5 +160,8 @@ module _ (now : ℕ) (b : Actor) where
     woke_from d (g ∷ gs) s = either Wakes (is_gathering d.last_act) _ _ (record { stays = s; act = omega arith }) (serves_on_woke d g gs s)
 
     pub consumer_woke : (gs : List Got) → Wakes (consumer_wake b c now gs)
-    consumer_woke gs =
-        woke_from b gs (record { number = refl; settings = refl; wake = refl; wakes = refl; polls = refl; sent = omega arith; words = omega arith })
+    consumer_woke gs = woke_from b gs same_stays
+
+-- the end of a service takes no word back
+pub ends_words : (now : ℕ) (c : ConsumerSettings) (d : Actor) (g : Got) (x : Bool × Draws) → x.1.taken ≤ (ends_by d c now g x).1.draws.taken
+ends_words now c d g (failed, draws) = let b : Actor = record d { draws = draws } in (ends_woke now b c b g failed (same_stays now b)).stays.words
