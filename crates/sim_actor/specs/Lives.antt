@@ -18,12 +18,13 @@ use Rattle.sqs_model.specs.declared.acts.Answer.{Answer}
 use Rattle.sqs_model.specs.declared.acts.Answer.TheVariants as told_by
 use Rattle.sqs_model.specs.declared.agents.ActorSettings.{ActorSettings}
 use Rattle.sqs_model.specs.declared.agents.Role.{Role}
-use Rattle.sqs_model.specs.declared.agents.Role.TheVariants.{Consumer, Producer, Script}
+use Rattle.sqs_model.specs.declared.agents.Role.TheVariants.{Consumer, Producer, Scaler, Script}
+use Rattle.sqs_model.specs.declared.agents.Scaling.{Scaling}
 use Rattle.sqs_model.specs.declared.agents.Serving.{Serving}
-use Rattle.sqs_model.specs.Actor.{Actor, Asked, Beat, Ended, Failed, Gathered, Served, LastAct, act_of, begins, begins_decided, begins_first, drawn_failure, ends_by, ends_service, ends_well, ends_whole, first_at, forward_of, forwards, has_forwarded, next_beat, outcome, sent_one, service_of, wakes_after}
+use Rattle.sqs_model.specs.Actor.{Actor, Asked, Beat, Decided, Ended, Failed, Gathered, Parked, Read, Served, LastAct, act_of, begins, begins_decided, begins_first, drawn_failure, ends_by, ends_service, ends_well, ends_whole, first_at, forward_of, forwards, has_forwarded, looks_again, next_beat, outcome, sent_one, service_of, wakes_after, woken}
 use Rattle.sqs_model.specs.Answers.{most_count}
 use Rattle.sqs_model.specs.Draw.{Draws, drawn_latency, drawn_time}
-use Rattle.sqs_model.specs.Valid.{IsConsumer, IsProducer}
+use Rattle.sqs_model.specs.Valid.{IsConsumer, IsProducer, IsScaler}
 use Rattle.sqs_redrive.specs.declared.answers.Got.{Got}
 use Rattle.sqs_model.specs.declared.agents.ConsumerSettings.{ConsumerSettings}
 use Rattle.sqs_model.specs.declared.agents.Distribution.{Distribution}
@@ -38,6 +39,7 @@ abbrev pub IsRole : Role → Type 0
 IsRole (Script script) = length script ≤ 100000
 IsRole (Producer p) = IsProducer p
 IsRole (Consumer c) = IsConsumer c
+IsRole (Scaler s) = IsScaler s
 
 -- the definitions' word for what a consumer did last
 abbrev pub last_act_of : OwnStage → LastAct
@@ -47,6 +49,9 @@ last_act_of (own.Served receipt) = Served receipt
 last_act_of own.Ended = Ended
 last_act_of own.Failed = Failed
 last_act_of own.Beat = Beat
+last_act_of own.Parked = Parked
+last_act_of (own.Decided copies changed) = Decided copies changed
+last_act_of (own.Read copies changed visible) = Read copies changed visible
 
 -- an actor without its settings
 pub record Life : Type 0 where
@@ -105,18 +110,18 @@ Becomes (Ok u) new model = model ≡ new
 Becomes (Err refusals.CountLimit) new model = most_count < greatest_count model
 Becomes (Err e) new model = ⊥
 
--- whether a service fails, and the draws after that, are the definition's
-abbrev pub Drawn : Result Bool Refusal → Draws → Bool × Draws → Type 0
-Drawn (Ok failed) new model = model ≡ (failed, new)
-Drawn (Err refusals.CountLimit) new model = most_count < model.1.taken
-Drawn (Err e) new model = ⊥
-
--- an act and the actor after it, of a decision after which the actor is as it was if memory runs out
+-- the same of a decision after which the actor is as it was if memory runs out
 abbrev pub Meets : Result Act Refusal → Actor → Actor → Act × Actor → Type 0
 Meets (Ok act) old new model = model ≡ (act, new)
 Meets (Err refusals.CountLimit) old new model = most_count < greatest_count model.1
 Meets (Err refusals.Memory) old new model = (new ≡ old) × (greatest_count model.1 ≤ most_count)
 Meets (Err e) old new model = ⊥
+
+-- whether a service fails, and the draws after that, are the definition's
+abbrev pub Drawn : Result Bool Refusal → Draws → Bool × Draws → Type 0
+Drawn (Ok failed) new model = model ≡ (failed, new)
+Drawn (Err refusals.CountLimit) new model = most_count < model.1.taken
+Drawn (Err e) new model = ⊥
 
 -- the definitions' word for a reply
 abbrev pub answer_of : Reply → Answer
@@ -177,6 +182,13 @@ Lived old new P = (s : ActorSettings) → P (lived s old) (lived s new)
 -- a consumer that serves until the service ends, or until its heartbeat before that
 abbrev pub in_service : ConsumerSettings → ℕ → Life → Life
 in_service c now l = record l { wake = Some (max (now + 1) (next_beat c.heartbeat now l.ends)) }
+
+-- a copy that wakes and is not to ask, and one that is to ask again
+abbrev pub copy_parks : ℕ → Option ℕ → Actor → Act × Actor
+copy_parks now next a = (acts.Nothing, record (woken a) { wake = looks_again now next; last_act = Parked })
+
+abbrev pub copy_starts : Scaling → ℕ → Actor → Act × Actor
+copy_starts s now a = (acts.Nothing, record (woken a) { wake = Some (max (now + 1) (now + s.start)); last_act = Asked })
 
 -- how long a service of so many messages takes
 abbrev pub drawn_service : ℕ → ConsumerSettings → Draws → ℕ × Draws

@@ -8,14 +8,14 @@ mod counts;
 mod decision;
 
 use crate::holding::Holding;
-use crate::life::{LastAct, Life};
+use crate::life::{LastAct, Life, copies_by};
 use sim_clock::Refusal;
 use sim_draw::Draws;
-use sqs_model::{ActorSettings, MOST_COUNT, Role};
+use sqs_model::{ActorSettings, MOST_COUNT, Role, Standing};
 use std::alloc::Global;
 use std::marker::Model;
 
-/// A script, a producer or a consumer: what it holds and counts, when it wakes, and its draws.
+/// A script, a producer, a consumer or a scaler: what it holds and counts, when it wakes, and its draws.
 /// Contracts see it as the definitions' record of these.
 #[derive(Drop)]
 pub struct Actor {
@@ -42,11 +42,13 @@ fn first_wake(role: &Role) -> Option<u64>
         Role::Script(script) => script.as_slice().first().map(|call| call.at),
         Role::Producer(producer) => Some(producer.start),
         Role::Consumer(consumer) => Some(consumer.start),
+        Role::Scaler(scaler) => Some(scaler.start),
     }
 }
 
 impl Actor {
     ghost use Rattle.sqs_model.specs.Scenario.{opening_actor};
+    ghost use Rattle.sqs_model.specs.Step.{standing_as};
 
     /// An actor that has done nothing.
     pub fn new(alloc: Global, number: u32, settings: ActorSettings, seed: u64) -> Actor
@@ -92,6 +94,20 @@ impl Actor {
         ensures { result.now ≡ self.now.settings }
     {
         &self.settings
+    }
+
+    /// What the copies go by whose scaler it is: how many are to ask, and when it wakes next, in
+    /// milliseconds. Nothing if it is no scaler.
+    pub fn standing(&self) -> Standing
+        ensures { result ≡ standing_as self.now.settings.role self.now }
+    {
+        match &self.settings.role {
+            Role::Scaler(scaler) => Standing {
+                number: copies_by(scaler, self.life.last_act) as u64,
+                next: self.life.wake,
+            },
+            Role::Script(_) | Role::Producer(_) | Role::Consumer(_) => Standing::none(),
+        }
     }
 
     /// Counts a waiting poll. At the limit of counts the actor stays as it was.

@@ -10,9 +10,11 @@ mod failing;
 mod forwarding;
 mod gathering;
 mod producer;
+mod scaling;
 mod script;
 
 use crate::holding::Holding;
+pub(crate) use scaling::copies_by;
 use sim_clock::Refusal;
 use sim_draw::Draws;
 use sqs_message::Receipt;
@@ -20,7 +22,7 @@ use sqs_model::{Distribution, MOST_COUNT};
 use std::alloc::Global;
 use std::marker::Model;
 
-/// The last act of a consumer.
+/// The last act of a consumer or scaler.
 #[derive(Clone, Copy)]
 pub enum LastAct {
     /// It asked for messages.
@@ -35,6 +37,19 @@ pub enum LastAct {
     Failed,
     /// It set the visibility timeout of the message in service anew.
     Beat,
+    /// It asks no more, until its scaler says so.
+    Parked,
+    /// A scaler decided that so many copies ask, which last changed at a moment.
+    Decided {
+        copies: u32,
+        changed: u64,
+    },
+    /// It also read how many messages are visible, and waits to decide by that.
+    Read {
+        copies: u32,
+        changed: u64,
+        visible: u64,
+    },
 }
 
 /// What an actor holds and counts, when it wakes, and its draws. Contracts see it as the record of

@@ -20,7 +20,7 @@ use Rattle.sqs_model.specs.declared.agents.Serving.{Serving}
 use Rattle.sqs_model.specs.declared.agents.Serving.TheVariants.{Each, Once}
 use Rattle.sqs_redrive.specs.declared.answers.Got.{Got}
 use Rattle.sqs_redrive.specs.declared.transfers.Outbound.{Outbound}
-use Rattle.sqs_model.specs.Actor.{Actor, Asked, Beat, Decided, Ended, Failed, Gathered, Parked, Read, Served, LastAct, asks_again, begins_by, begins_first, begins_next, consumer_told, consumer_wake, copies_after, copy_rests, copy_wake, drawn_failure, first_at, gathers_on, got_more, has_come, has_failed, has_nothing, idle, in_service, is_gathered, is_parked, is_wanted, looks_again, next, next_as, next_beat, producer_sent, producer_wake, reads, rest_after, scaler_wake, scales, scales_for, script_wake, service_of, serving, wakes_after, wanted_for, woken}
+use Rattle.sqs_model.specs.Actor.{Actor, Asked, Beat, Ended, Failed, Gathered, Parked, Served, LastAct, asks_again, begins_by, begins_first, begins_next, consumer_told, consumer_wake, changed_at, copies_after, copies_by, copy_rests, copy_wake, drawn_failure, first_at, gathers_on, got_more, has_come, has_failed, has_nothing, idle, in_service, is_gathered, is_parked, is_wanted, looks_again, next, next_as, next_beat, producer_sent, producer_wake, read_before, reads, reads_or_scales, rest_after, scales, scales_for, script_wake, service_of, serving, wakes_after, wanted_for, woken}
 use Rattle.sqs_model.specs.Draw.{Draws, drawn_time}
 use Rattle.sqs_model.specs.Progress.{Ascends, IsSoundActor, IsSoundDistribution, IsSoundForward, IsSoundRole, WakesFor}
 use Rattle.sqs_model.proofs.Counts.{ascends_lower}
@@ -157,7 +157,7 @@ module _ (now : ℕ) (w : Weight now) where
   sleeps_steps : (gone : ℕ) (c : ConsumerSettings) (a : Actor) (next : Option ℕ) → IsGone now w gone a → Steps now w gone (Consumer c) a (acts.Nothing, record (woken a) { wake = looks_again now next; last_act = Parked })
   sleeps_steps gone c a None g = record { number = refl; settings = refl; wakes = tt; wake = omega (arith, gone_at_most gone a g); sends = tt }
   sleeps_steps gone c a (Some next) g =
-      let past : w.of (wake_key (max now next + 1) (woken a)) ≡ 0 = w.past (wake_key (max now next + 1) (woken a)) (omega arith) in
+      let past : w.of (wake_key (max (now + 1) next) (woken a)) ≡ 0 = w.past (wake_key (max (now + 1) next) (woken a)) (omega arith) in
       record { number = refl; settings = refl; wakes = tt; wake = omega (arith, gone_at_most gone a g); sends = tt }
 
   copy_rests_steps :
@@ -197,10 +197,9 @@ module _ (now : ℕ) (w : Weight now) where
       let past : w.of (wake_key (now + s.reading) (woken a)) ≡ 0 = w.past (wake_key (now + s.reading) (woken a)) (omega (arith, some)) in
       record { number = refl; settings = refl; wakes = tt; wake = omega (arith, gone_at_most gone a g); sends = tt })
 
-  scaler_wake_steps : (gone : ℕ) (s : ScalerSettings) (a : Actor) (visible : ℕ) (last : LastAct) → s.reading < s.every → IsGone now w gone a → Steps now w gone (Scaler s) a (scaler_wake (woken a) s now visible last)
-  scaler_wake_steps gone s a visible (Read copies changed before) h g = scales_for_steps gone s a copies changed before h g
-  scaler_wake_steps gone s a visible (Decided copies changed) h g = reads_steps gone s a copies changed visible h g
-  scaler_wake_steps gone s a visible last h g = reads_steps gone s a s.least 0 visible h g
+  scaler_wake_steps : (gone : ℕ) (o : Option ℕ) (s : ScalerSettings) (a : Actor) (copies changed visible : ℕ) → s.reading < s.every → IsGone now w gone a → Steps now w gone (Scaler s) a (reads_or_scales o (woken a) s now copies changed visible)
+  scaler_wake_steps gone (Some before) s a copies changed visible h g = scales_for_steps gone s a copies changed before h g
+  scaler_wake_steps gone None s a copies changed visible h g = reads_steps gone s a copies changed visible h g
 
   in_service_steps : (c : ConsumerSettings) (a b : Actor) → b.number ≡ a.number → b.settings ≡ a.settings → Steps now w 0 (Consumer c) a (acts.Nothing, in_service b c now)
   in_service_steps c a b n s =
@@ -267,7 +266,7 @@ module _ (now : ℕ) (w : Weight now) where
   role_steps gone (Consumer c) a (told_by.Got gots) s k g = rw g (consumer_got_steps c a a.held gots s)
   role_steps gone (Consumer c) a told_by.Waiting s k g = rw g (same_steps (Consumer c) a k)
   role_steps gone (Consumer c) a told_by.Other s k g = rw g (consumer_told_steps c a a.last_act s)
-  role_steps gone (Scaler s) a (told_by.Wake st) h k g = scaler_wake_steps gone s a st.number a.last_act h g
+  role_steps gone (Scaler s) a (told_by.Wake st) h k g = scaler_wake_steps gone (read_before a.last_act) s a (copies_by s a.last_act) (changed_at a.last_act) st.number h g
   role_steps gone (Scaler s) a (told_by.Got gots) h k g = rw g (same_steps (Scaler s) a k)
   role_steps gone (Scaler s) a told_by.Waiting h k g = rw g (same_steps (Scaler s) a k)
   role_steps gone (Scaler s) a told_by.Other h k g = rw g (same_steps (Scaler s) a k)

@@ -18,7 +18,7 @@ use Rattle.sqs_model.specs.declared.agents.ScalerSettings.{ScalerSettings}
 use Rattle.sqs_model.specs.declared.agents.Scaling.{Scaling}
 use Rattle.sqs_model.specs.declared.agents.Serving.{Serving}
 use Rattle.sqs_model.specs.declared.agents.Serving.TheVariants.{Each, Once}
-use Rattle.sqs_model.specs.Actor.{Actor, Asked, Beat, Decided, Ended, Failed, Gathered, Read, Served, LastAct, backoff_at, begins_by, begins_next, consumer_told, consumer_wake, copies_after, copy_rests, copy_wake, gathers_on, got_more, has_come, has_failed, has_nothing, is_gathered, is_parked, is_wanted, next, next_as, rest_after, producer_sent, producer_wake, reads, scaler_wake, scales, script_wake, service_of, serving, wakes_after, wanted_for, woken}
+use Rattle.sqs_model.specs.Actor.{Actor, Asked, Beat, Ended, Failed, Gathered, Served, LastAct, backoff_at, begins_by, begins_next, consumer_told, consumer_wake, changed_at, copies_after, copies_by, copy_rests, copy_wake, gathers_on, got_more, has_come, has_failed, has_nothing, is_gathered, is_parked, is_wanted, next, next_as, rest_after, producer_sent, producer_wake, read_before, reads, reads_or_scales, scales, script_wake, service_of, serving, wakes_after, wanted_for, woken}
 use Rattle.sqs_model.specs.Draw.{Draws, drawn_time}
 use Rattle.sqs_model.proofs.Branches.{either}
 use Rattle.sqs_model.proofs.ConsumerWakes.{IsForwardBy, MayForwardBy, consumer_woke, service_sends}
@@ -140,10 +140,9 @@ module _ (now : ℕ) (a : Actor) where
         either (Decides now a None) (s.reading == 0) _ _ (scales_decides copies changed (copies_after s now copies changed (wanted_for s visible)))
         (rests None _ refl refl refl (omega arith) refl (omega arith) _ tt)
 
-    scaler_decides : (visible : ℕ) (last : LastAct) → Decides now a None (scaler_wake (woken a) s now visible last)
-    scaler_decides visible (Read copies changed before) = scales_decides copies changed (copies_after s now copies changed (wanted_for s before))
-    scaler_decides visible (Decided copies changed) = reads_decides copies changed visible
-    scaler_decides visible last = reads_decides s.least 0 visible
+    scaler_decides : (o : Option ℕ) (copies changed visible : ℕ) → Decides now a None (reads_or_scales o (woken a) s now copies changed visible)
+    scaler_decides (Some before) copies changed visible = scales_decides copies changed (copies_after s now copies changed (wanted_for s before))
+    scaler_decides None copies changed visible = reads_decides copies changed visible
 
   as_decides : (r : Role) (w : Answer) → Decides now a (forward_of r) (next_as r a now w)
   as_decides (Script script) (told_by.Wake st) = script_decides (drop a.wakes script)
@@ -155,7 +154,7 @@ module _ (now : ℕ) (a : Actor) where
   as_decides (Consumer c) (told_by.Got gots) = got_decides c a.held gots
   as_decides (Consumer c) told_by.Waiting = none c.forward
   as_decides (Consumer c) told_by.Other = told_decides c a.last_act
-  as_decides (Scaler s) (told_by.Wake st) = scaler_decides s st.number a.last_act
+  as_decides (Scaler s) (told_by.Wake st) = scaler_decides s (read_before a.last_act) (copies_by s a.last_act) (changed_at a.last_act) st.number
   as_decides (Scaler s) w = none None
 
   pub next_decides : (w : Answer) → Decides now a (forward_of a.settings.role) (next a now w)

@@ -30,7 +30,7 @@ use Rattle.sqs_redrive.specs.declared.settings.Kind.TheVariants.{Fifo, Standard}
 use Rattle.sqs_redrive.specs.declared.settings.Policy.{Policy}
 use Rattle.sqs_redrive.specs.declared.transfers.Load.{Load}
 use Rattle.sqs_redrive.specs.declared.transfers.Outbound.{Outbound}
-use Rattle.sqs_model.specs.Actor.{Actor, Asked, Beat, Decided, Ended, Failed, Gathered, Parked, Read, Served, LastAct, act_of, backoff_at, backoff_drawn, consumer_told, consumer_wake, copies_after, copy_rests, copy_wake, got_more, has_come, has_failed, has_nothing, is_parked, is_wanted, next, next_as, producer_wake, reads, scaler_wake, scales, script_wake, wanted_for, woken}
+use Rattle.sqs_model.specs.Actor.{Actor, Asked, Beat, Decided, Ended, Failed, Gathered, Parked, Read, Served, LastAct, act_of, backoff_at, backoff_drawn, consumer_told, consumer_wake, changed_at, copies_after, copies_by, copy_rests, copy_wake, got_more, has_come, has_failed, has_nothing, is_parked, is_wanted, next, next_as, producer_wake, read_before, reads, reads_or_scales, scales, script_wake, wanted_for, woken}
 use Rattle.std.specs.List.{list_any}
 use Rattle.sim_clock.specs.declared.refusal.Refusal.TheVariants as refusals
 use Rattle.sqs_message.specs.declared.row.RowAnswer.TheVariants as answers
@@ -351,10 +351,9 @@ reads_over : (now : ℕ) (s : ScalerSettings) (a : Actor) (copies changed visibl
 reads_over now s a copies changed visible e =
     either (IsOverAfter (IsOver 2 now)) (s.reading == 0) _ _ (scales_over now s a copies changed (copies_after s now copies changed (wanted_for s visible)) e) tt
 
-scaler_wake_over : (now : ℕ) (s : ScalerSettings) (a : Actor) (visible : ℕ) (last : LastAct) → a.settings.role ≡ Scaler s → IsOverAfter (IsOver 2 now) (scaler_wake a s now visible last)
-scaler_wake_over now s a visible (Read copies changed before) e = scales_over now s a copies changed (copies_after s now copies changed (wanted_for s before)) e
-scaler_wake_over now s a visible (Decided copies changed) e = reads_over now s a copies changed visible e
-scaler_wake_over now s a visible last e = reads_over now s a s.least 0 visible e
+scaler_wake_over : (now : ℕ) (o : Option ℕ) (s : ScalerSettings) (a : Actor) (copies changed visible : ℕ) → a.settings.role ≡ Scaler s → IsOverAfter (IsOver 2 now) (reads_or_scales o a s now copies changed visible)
+scaler_wake_over now (Some before) s a copies changed visible e = scales_over now s a copies changed (copies_after s now copies changed (wanted_for s before)) e
+scaler_wake_over now None s a copies changed visible e = reads_over now s a copies changed visible e
 
 -- a producer that sends or stops
 sends_over : (now : ℕ) (p : ProducerSettings) (a : Actor) → a.settings.role ≡ Producer p → IsOverAfter (IsOver 2 now) (producer_wake a p now)
@@ -372,7 +371,7 @@ three_as : (now : ℕ) (a : Actor) (w : Answer) (r : Role) → a.settings.role �
 three_as now a (told_by.Wake st) (Script s) e = over_by 2 now a (told_by.Wake st) (Script s) e (calls_over now s a (drop a.wakes s) e)
 three_as now a (told_by.Wake st) (Producer p) e = over_by 2 now a (told_by.Wake st) (Producer p) e (sends_over now p a e)
 three_as now a (told_by.Wake st) (Consumer c) e = over_by 2 now a (told_by.Wake st) (Consumer c) e (copy_over now c.scaling c (woken a) st e)
-three_as now a (told_by.Wake st) (Scaler s) e = over_by 2 now a (told_by.Wake st) (Scaler s) e (scaler_wake_over now s (woken a) st.number a.last_act e)
+three_as now a (told_by.Wake st) (Scaler s) e = over_by 2 now a (told_by.Wake st) (Scaler s) e (scaler_wake_over now (read_before a.last_act) s (woken a) (copies_by s a.last_act) (changed_at a.last_act) st.number e)
 three_as now a (told_by.Got gots) (Scaler s) e = over_by 2 now a (told_by.Got gots) (Scaler s) e tt
 three_as now a told_by.Waiting (Scaler s) e = over_by 2 now a told_by.Waiting (Scaler s) e tt
 three_as now a told_by.Other (Scaler s) e = over_by 2 now a told_by.Other (Scaler s) e tt

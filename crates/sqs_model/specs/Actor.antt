@@ -1,5 +1,6 @@
 -- Scripts, producers and consumers: what an actor does next, and when it wakes.
 use Rattle.std.specs.Fmt.{decimal}
+use Rattle.std.specs.Int.{div_ceil}
 use Rattle.std.specs.List.{list_any}
 use Rattle.sim_clock.specs.Firsts.{is_empty}
 use Rattle.std.specs.Prelude.{Bool, List, None, Option, Some, [], drop, false, get_or, if◌then◌else◌, length, max, min, nat_le, nat_lt, take, true, ℕ, ◌%◌, ◌&&◌, ◌*◌, ◌++◌, ◌+◌, ◌-◌, ◌/◌, ◌==◌, ◌||◌, ◌∷◌}
@@ -366,10 +367,10 @@ abbrev pub is_parked : LastAct → Bool
 is_parked Parked = true
 is_parked last = false
 
--- when a copy that is not to ask looks again: after the next decision of its scaler
+-- when a copy that is not to ask looks again: when its scaler wakes next, and never at once
 abbrev pub looks_again : ℕ → Option ℕ → Option ℕ
 looks_again now None = None
-looks_again now (Some next) = Some (max now next + 1)
+looks_again now (Some next) = Some (max (now + 1) next)
 
 -- a copy that has nothing to do: if it is not to ask it sleeps; else it asks, at once or when it has started
 abbrev pub copy_rests : Bool → Scaling → Actor → ConsumerSettings → ℕ → Option ℕ → Act × Actor
@@ -386,13 +387,17 @@ copy_wake (Some s) a c now st =
 
 -- how many copies a scaler wants for so many visible messages: one for each target, within its bounds
 abbrev pub wanted_for : ScalerSettings → ℕ → ℕ
-wanted_for s visible = min s.most (max s.least ((visible + (s.target - 1)) / s.target))
+wanted_for s visible = min s.most (max s.least (div_ceil visible s.target))
 
--- how many copies there are after some were added or taken away: no more at once than it may, none in a cooldown
+-- how many copies it adds or takes away of those that it lacks or has too many: none in a cooldown after the last change
+abbrev pub changed_by : ℕ → Bool → ℕ → ℕ
+changed_by most too_early copies = if too_early then 0 else min most copies
+
+-- how many copies there are after a decision, by how many are wanted
 abbrev pub copies_after : ScalerSettings → ℕ → ℕ → ℕ → ℕ → ℕ
 copies_after s now copies changed wanted =
-    if nat_lt copies wanted then (if nat_lt now (changed + s.cooldown_out) then copies else min wanted (copies + s.most_added))
-    else (if nat_lt now (changed + s.cooldown_in) then copies else max wanted (copies - s.most_taken))
+    if nat_lt copies wanted then copies + changed_by s.most_added (nat_lt (now - changed) s.cooldown_out) (wanted - copies)
+    else copies - changed_by s.most_taken (nat_lt (now - changed) s.cooldown_in) (copies - wanted)
 
 -- a scaler that decided; it reads again after its time
 abbrev pub has_decided : Actor → ScalerSettings → ℕ → ℕ → ℕ → Actor
@@ -413,17 +418,31 @@ reads a s now copies changed visible =
     if s.reading == 0 then scales_for a s now copies changed visible
     else (acts.Nothing, record a { wake = Some (now + s.reading); last_act = Read copies changed visible })
 
--- one that wakes; at first its least copies ask, as if that had changed at the start of the run
-abbrev pub scaler_wake : Actor → ScalerSettings → ℕ → ℕ → LastAct → Act × Actor
-scaler_wake a s now visible (Read copies changed before) = scales_for a s now copies changed before
-scaler_wake a s now visible (Decided copies changed) = reads a s now copies changed visible
-scaler_wake a s now visible last = reads a s now s.least 0 visible
-
--- how many copies are to ask, by what their scaler did last
+-- how many copies are to ask, by what their scaler did last; at first it is the least
 abbrev pub copies_by : ScalerSettings → LastAct → ℕ
-copies_by s (Read copies changed visible) = copies
 copies_by s (Decided copies changed) = copies
+copies_by s (Read copies changed visible) = copies
 copies_by s last = s.least
+
+-- when that last changed; at first as if at the start of the run
+abbrev pub changed_at : LastAct → ℕ
+changed_at (Decided copies changed) = changed
+changed_at (Read copies changed visible) = changed
+changed_at last = 0
+
+-- the number that it read and waits to decide by, if it does
+abbrev pub read_before : LastAct → Option ℕ
+read_before (Read copies changed visible) = Some visible
+read_before last = None
+
+-- one that decides by what it read before, or reads
+abbrev pub reads_or_scales : Option ℕ → Actor → ScalerSettings → ℕ → ℕ → ℕ → ℕ → Act × Actor
+reads_or_scales (Some before) a s now copies changed visible = scales_for a s now copies changed before
+reads_or_scales None a s now copies changed visible = reads a s now copies changed visible
+
+-- one that wakes
+abbrev pub scaler_wake : Actor → ScalerSettings → ℕ → ℕ → LastAct → Act × Actor
+scaler_wake a s now visible last = reads_or_scales (read_before last) a s now (copies_by s last) (changed_at last) visible
 
 -- how long a consumer that gathers rests after a receive: not at all if it gave messages
 abbrev pub rest_after : ℕ → List Got → ℕ

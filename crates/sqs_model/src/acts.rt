@@ -13,6 +13,21 @@ pub struct Standing {
     pub next: Option<u64>,
 }
 
+impl Standing {
+    ghost use Rattle.std.specs.Prelude.{◌≡◌};
+    ghost use Rattle.sqs_model.specs.Step.{no_standing};
+
+    /// Nothing to go by.
+    pub fn none() -> Standing
+        ensures { result ≡ no_standing }
+    {
+        Standing {
+            number: 0,
+            next: None,
+        }
+    }
+}
+
 /// An answer that an actor gets.
 #[derive(Drop)]
 pub enum Answer {
@@ -68,8 +83,8 @@ pub enum Act {
     },
     /// A scaler changes how many copies of a consumer ask for messages.
     Scale {
-        from: u64,
-        to: u64,
+        from: u32,
+        to: u32,
     },
     Nothing,
 }

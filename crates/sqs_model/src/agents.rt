@@ -161,13 +161,13 @@ pub struct ScalerSettings {
     /// How many visible messages it wants for each copy.
     pub target: u64,
     /// The fewest copies.
-    pub least: u64,
+    pub least: u32,
     /// The most copies.
-    pub most: u64,
+    pub most: u32,
     /// How many copies it adds at most at once.
-    pub most_added: u64,
+    pub most_added: u32,
     /// How many it takes away at most at once.
-    pub most_taken: u64,
+    pub most_taken: u32,
     /// How long after a change, or after the start of the run, it adds none.
     pub cooldown_out: u64,
     /// How long it takes none away.

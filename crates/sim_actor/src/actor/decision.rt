@@ -7,23 +7,25 @@ ghost use Rattle.sim_actor.specs.Lives.{Decides, DoesNothing, FollowsUp, IsFrame
 use super::Actor;
 use crate::replies::{FollowUp, Reply};
 use sim_clock::Refusal;
-use sqs_model::{Act, Answer, Role};
+use sqs_model::{Act, Answer, Role, Standing};
 use sqs_redrive::Batch;
 
 impl Actor {
     // Decides when its wake has come.
-    fn next_woken(&mut self, now: u64) -> Result<Act, Refusal>
+    fn next_woken(&mut self, now: u64, standing: Standing) -> Result<Act, Refusal>
         requires { now ≤ most_count }
         ensures decision { Decides result self.new
-            (next_as self.old.settings.role self.old now Answer.Wake) }
+            (next_as self.old.settings.role self.old now (Answer.Wake standing)) }
         ensures framed { IsFramed self.old self.new }
     {
         match &self.settings.role {
             Role::Script(script) => self.life.script_wake(script.as_slice()),
             Role::Producer(producer) => self.life.producer_wake(producer, now),
             Role::Consumer(consumer) => {
-                self.life.consumer_wake(consumer, self.settings.home, now)
+                let home = self.settings.home;
+                self.life.copy_wake(consumer, home, now, standing)
             }
+            Role::Scaler(scaler) => self.life.scaler_wake(scaler, now, standing.number),
         }
     }
 
@@ -35,7 +37,7 @@ impl Actor {
         ensures framed { IsFramed self.old self.new }
     {
         match &self.settings.role {
-            Role::Script(_) | Role::Producer(_) => Ok(()),
+            Role::Script(_) | Role::Producer(_) | Role::Scaler(_) => Ok(()),
             Role::Consumer(consumer) => self.life.consumer_got(consumer, now, batch),
         }
     }
@@ -48,7 +50,7 @@ impl Actor {
         ensures framed { IsFramed self.old self.new }
     {
         match &self.settings.role {
-            Role::Script(_) => {}
+            Role::Script(_) | Role::Scaler(_) => {}
             Role::Producer(producer) => self.life.producer_sent(producer, now)?,
             Role::Consumer(consumer) => return self.life.consumer_told(consumer, now),
         }
@@ -70,20 +72,22 @@ impl Actor {
         Ok(FollowUp::Nothing)
     }
 
-    /// Decides what to do when its wake has come, at a moment in milliseconds.
+    /// Decides what to do when its wake has come, at a moment in milliseconds, by what a scaler or a
+    /// copy goes by then.
     ///
     /// # Errors
     ///
     /// `CountLimit` exactly if the decision would count past the limit, and `Memory`, which a
     /// consumer that forwards may report. After either nothing is promised of the actor.
     #[tactic(auto, unfolding(sqs_model::specs::Actor::next))]
-    pub fn woken(&mut self, now: u64) -> Result<Act, Refusal>
+    pub fn woken(&mut self, now: u64, standing: Standing) -> Result<Act, Refusal>
         requires { now ≤ most_count }
-        ensures decision { Decides result self.new (the_next self.old now Answer.Wake) }
+        ensures decision { Decides result self.new
+            (the_next self.old now (Answer.Wake standing)) }
         ensures counted { greatest_count self.new ≤ most_count }
         ensures framed { IsFramed self.old self.new }
     {
-        let act = self.next_woken(now);
+        let act = self.next_woken(now, standing);
         // The type's invariant says that its counts are within the limit.
         let _ = &self.life.wakes;
         act

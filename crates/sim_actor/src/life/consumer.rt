@@ -523,6 +523,7 @@ impl Life {
             LastAct::Ended => self.serve_held(consumer, now)?,
             LastAct::Failed => return self.told_of_failure(consumer, now),
             LastAct::Beat => self.in_service(consumer, now),
+            LastAct::Parked | LastAct::Decided { .. } | LastAct::Read { .. } => {}
         }
         Ok(FollowUp::Nothing)
     }

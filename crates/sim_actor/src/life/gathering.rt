@@ -21,8 +21,14 @@ pub(crate) fn is_gathering(last_act: LastAct) -> bool
 {
     match last_act {
         LastAct::Gathered => true,
-        LastAct::Asked | LastAct::Served(_) | LastAct::Ended | LastAct::Failed | LastAct::Beat =>
-            false,
+        LastAct::Asked
+        | LastAct::Served(_)
+        | LastAct::Ended
+        | LastAct::Failed
+        | LastAct::Beat
+        | LastAct::Parked
+        | LastAct::Decided { .. }
+        | LastAct::Read { .. } => false,
     }
 }
 

@@ -1,0 +1,304 @@
+//! How a scaler says how many copies of a consumer ask for messages, and what a copy does then.
+ghost use Rattle.std.specs.Prelude.{◌≡◌, ◌≤◌, ◌+◌, Some};
+ghost use Rattle.sqs_model.specs.declared.agents.ActorSettings.{ActorSettings};
+ghost use Rattle.sqs_model.specs.Actor.{changed_at as the_changed_at, changed_by as the_changed_by, copies_after as the_copies_after, copies_by as the_copies_by, copy_rests, copy_wake as the_copy_wake, has_decided as the_has_decided, is_parked as the_is_parked, is_wanted, read_before as the_read_before, reads as the_reads, scaler_wake as the_scaler_wake, scales as the_scales, scales_for as the_scales_for, wanted_for as the_wanted_for, woken};
+ghost use Rattle.sqs_model.specs.Answers.{most_count};
+ghost use Rattle.sqs_model.specs.Valid.{IsConsumer, IsScaler};
+ghost use Rattle.sim_actor.specs.Lives.{Decides, DecidesAt, Lived, Lives, copy_parks, copy_starts, last_act_of, lived};
+
+use super::{LastAct, Life};
+use sim_clock::Refusal;
+use sqs_model::{Act, ConsumerSettings, MOST_COUNT, ScalerSettings, Scaling, Standing};
+
+// How many copies a scaler wants for so many visible messages.
+fn wanted_for(scaler: &ScalerSettings, visible: u64) -> u32
+    requires { IsScaler scaler.now }
+    ensures { result ≡ the_wanted_for scaler.now visible }
+{
+    let copies = visible.div_ceil(scaler.target);
+    copies.max(scaler.least as u64).min(scaler.most as u64) as u32
+}
+
+// How many copies it adds or takes away of those that it lacks or has too many.
+fn changed_by(most: u32, too_early: bool, copies: u32) -> u32
+    ensures changed { result ≡ the_changed_by most too_early copies }
+    ensures most { result ≤ copies }
+{
+    if too_early { 0 } else { most.min(copies) }
+}
+
+// How many copies there are after a decision, by how many are wanted.
+fn copies_after(scaler: &ScalerSettings, now: u64, copies: u32, changed: u64, wanted: u32) -> u32
+    ensures { result ≡ the_copies_after scaler.now now copies changed wanted }
+{
+    let since = now.saturating_sub(changed);
+    if copies < wanted {
+        let lacking = wanted - copies;
+        copies + changed_by(scaler.most_added, since < scaler.cooldown_out, lacking)
+    } else {
+        let too_many = copies - wanted;
+        copies - changed_by(scaler.most_taken, since < scaler.cooldown_in, too_many)
+    }
+}
+
+/// How many copies are to ask, by the last act of their scaler.
+pub(crate) fn copies_by(scaler: &ScalerSettings, last_act: LastAct) -> u32
+    ensures { result ≡ the_copies_by scaler.now (last_act_of last_act) }
+{
+    match last_act {
+        LastAct::Decided { copies, .. } | LastAct::Read { copies, .. } => copies,
+        LastAct::Asked
+        | LastAct::Gathered
+        | LastAct::Served(_)
+        | LastAct::Ended
+        | LastAct::Failed
+        | LastAct::Beat
+        | LastAct::Parked => scaler.least,
+    }
+}
+
+// When that last changed.
+fn changed_at(last_act: LastAct) -> u64
+    ensures { result ≡ the_changed_at (last_act_of last_act) }
+{
+    match last_act {
+        LastAct::Decided { changed, .. } | LastAct::Read { changed, .. } => changed,
+        LastAct::Asked
+        | LastAct::Gathered
+        | LastAct::Served(_)
+        | LastAct::Ended
+        | LastAct::Failed
+        | LastAct::Beat
+        | LastAct::Parked => 0,
+    }
+}
+
+// The number that a scaler read and waits to decide by, if it does.
+fn read_before(last_act: LastAct) -> Option<u64>
+    ensures { result ≡ the_read_before (last_act_of last_act) }
+{
+    match last_act {
+        LastAct::Read { visible, .. } => Some(visible),
+        LastAct::Decided { .. }
+        | LastAct::Asked
+        | LastAct::Gathered
+        | LastAct::Served(_)
+        | LastAct::Ended
+        | LastAct::Failed
+        | LastAct::Beat
+        | LastAct::Parked => None,
+    }
+}
+
+// Whether a copy asks no more, by its last act.
+fn is_parked(last_act: LastAct) -> bool
+    ensures { result ≡ the_is_parked (last_act_of last_act) }
+{
+    match last_act {
+        LastAct::Parked => true,
+        LastAct::Asked
+        | LastAct::Gathered
+        | LastAct::Served(_)
+        | LastAct::Ended
+        | LastAct::Failed
+        | LastAct::Beat
+        | LastAct::Decided { .. }
+        | LastAct::Read { .. } => false,
+    }
+}
+
+impl Life {
+    // A scaler has decided that so many copies ask. It reads again after its time.
+    fn has_decided(&mut self, scaler: &ScalerSettings, now: u64, copies: u32, changed: u64)
+        requires moment { now ≤ most_count }
+        requires scaler { IsScaler scaler.now }
+        ensures decided { Lived self.old self.new (λ a b.
+            the_has_decided a scaler.now now copies changed ≡ b) }
+        ensures framed { self.new.number ≡ self.old.number }
+    {
+        self.wake = Some(now + (scaler.every - scaler.reading));
+        self.last_act = LastAct::Decided { copies, changed };
+    }
+
+    // Says how many copies ask from now on.
+    fn scale(
+        &mut self,
+        scaler: &ScalerSettings,
+        now: u64,
+        copies: u32,
+        changed: u64,
+        to: u32,
+    ) -> Act
+        requires moment { now ≤ most_count }
+        requires scaler { IsScaler scaler.now }
+        ensures decision { Lived self.old self.new (λ a b.
+            the_scales a scaler.now now copies changed to ≡ (result, b)) }
+        ensures framed { self.new.number ≡ self.old.number }
+    {
+        if to == copies {
+            self.has_decided(scaler, now, copies, changed);
+            return Act::Nothing;
+        }
+        self.has_decided(scaler, now, to, now);
+        Act::Scale { from: copies, to }
+    }
+
+    // Says how many copies ask, by so many visible messages.
+    fn scale_for(
+        &mut self,
+        scaler: &ScalerSettings,
+        now: u64,
+        copies: u32,
+        changed: u64,
+        visible: u64,
+    ) -> Act
+        requires moment { now ≤ most_count }
+        requires scaler { IsScaler scaler.now }
+        ensures decision { Lived self.old self.new (λ a b.
+            the_scales_for a scaler.now now copies changed visible ≡ (result, b)) }
+        ensures framed { self.new.number ≡ self.old.number }
+    {
+        let wanted = wanted_for(scaler, visible);
+        let to = copies_after(scaler, now, copies, changed, wanted);
+        self.scale(scaler, now, copies, changed, to)
+    }
+
+    // Reads how many messages are visible, and decides by that at once or later.
+    fn read_visible(
+        &mut self,
+        scaler: &ScalerSettings,
+        now: u64,
+        copies: u32,
+        changed: u64,
+        visible: u64,
+    ) -> Act
+        requires moment { now ≤ most_count }
+        requires scaler { IsScaler scaler.now }
+        ensures decision { Lived self.old self.new (λ a b.
+            the_reads a scaler.now now copies changed visible ≡ (result, b)) }
+        ensures framed { self.new.number ≡ self.old.number }
+    {
+        if scaler.reading == 0 {
+            return self.scale_for(scaler, now, copies, changed, visible);
+        }
+        self.wake = Some(now + scaler.reading);
+        self.last_act = LastAct::Read {
+            copies,
+            changed,
+            visible,
+        };
+        Act::Nothing
+    }
+
+    // A scaler's wake has come, when so many messages of its queue are visible.
+    pub(crate) fn scaler_wake(
+        &mut self,
+        scaler: &ScalerSettings,
+        now: u64,
+        visible: u64,
+    ) -> Result<Act, Refusal>
+        requires moment { now ≤ most_count }
+        requires scaler { IsScaler scaler.now }
+        ensures decision { Lives Decides result self.old self.new
+            (λ a. the_scaler_wake (woken a) scaler.now now visible a.last_act) }
+        ensures framed { self.new.number ≡ self.old.number }
+    {
+        if self.wakes == MOST_COUNT {
+            return Err(Refusal::CountLimit);
+        }
+        let (copies, changed) = (copies_by(scaler, self.last_act), changed_at(self.last_act));
+        let read_before = read_before(self.last_act);
+        self.count_wake();
+        if let Some(before) = read_before {
+            return Ok(self.scale_for(scaler, now, copies, changed, before));
+        }
+        Ok(self.read_visible(scaler, now, copies, changed, visible))
+    }
+
+    // Whether it is one of so many copies that are to ask.
+    fn is_wanted(&self, scaling: Scaling, copies: u64) -> bool
+        ensures { (s : ActorSettings) → result ≡ is_wanted scaling copies (lived s self.now) }
+    {
+        (self.number as u64 + 1).saturating_sub(scaling.second as u64) < copies
+    }
+
+    // A copy that is not to ask sleeps until its scaler wakes next.
+    fn park(&mut self, now: u64, next: Option<u64>) -> Result<Act, Refusal>
+        requires moment { now ≤ most_count }
+        ensures decision { Lives Decides result self.old self.new (copy_parks now next) }
+        ensures framed { self.new.number ≡ self.old.number }
+    {
+        if self.wakes == MOST_COUNT {
+            return Err(Refusal::CountLimit);
+        }
+        self.count_wake();
+        self.wake = next.map(|next| next.max(now + 1));
+        self.last_act = LastAct::Parked;
+        Ok(Act::Nothing)
+    }
+
+    // A copy that is to ask again starts first.
+    fn start(&mut self, scaling: Scaling, now: u64) -> Result<Act, Refusal>
+        requires moment { now ≤ most_count }
+        requires start { scaling.start ≤ most_count }
+        ensures decision { Lives Decides result self.old self.new (copy_starts scaling now) }
+        ensures framed { self.new.number ≡ self.old.number }
+    {
+        if self.wakes == MOST_COUNT {
+            return Err(Refusal::CountLimit);
+        }
+        self.count_wake();
+        self.wake = Some((now + scaling.start).max(now + 1));
+        self.last_act = LastAct::Asked;
+        Ok(Act::Nothing)
+    }
+
+    // A copy's wake has come, and it has nothing to do but to go by its scaler.
+    fn copy_rest(
+        &mut self,
+        consumer: &ConsumerSettings,
+        scaling: Scaling,
+        home: u32,
+        now: u64,
+        standing: Standing,
+    ) -> Result<Act, Refusal>
+        requires moment { now ≤ most_count }
+        requires start { scaling.start ≤ most_count }
+        requires consumer { IsConsumer consumer.now }
+        ensures decision { DecidesAt home result self.old self.new
+            (λ a. copy_rests (is_wanted scaling standing.number a) scaling
+            (woken a) consumer.now now standing.next) }
+        ensures framed { self.new.number ≡ self.old.number }
+    {
+        if !self.is_wanted(scaling, standing.number) {
+            return self.park(now, standing.next);
+        }
+        if is_parked(self.last_act) {
+            return self.start(scaling, now);
+        }
+        self.consumer_wake(consumer, home, now)
+    }
+
+    // A consumer's wake has come. It goes by its scaler, if it has one and nothing else to do.
+    pub(crate) fn copy_wake(
+        &mut self,
+        consumer: &ConsumerSettings,
+        home: u32,
+        now: u64,
+        standing: Standing,
+    ) -> Result<Act, Refusal>
+        requires moment { now ≤ most_count }
+        requires consumer { IsConsumer consumer.now }
+        ensures decision { DecidesAt home result self.old self.new
+            (λ a. the_copy_wake consumer.now.scaling (woken a) consumer.now now standing) }
+        ensures framed { self.new.number ≡ self.old.number }
+    {
+        let Some(scaling) = consumer.scaling else {
+            return self.consumer_wake(consumer, home, now);
+        };
+        if self.holding.is_empty() {
+            return self.copy_rest(consumer, scaling, home, now, standing);
+        }
+        self.consumer_wake(consumer, home, now)
+    }
+}
