@@ -1,5 +1,5 @@
 -- An actor of a scenario's text.
-use Rattle.std.specs.Prelude.{ℕ, ◌-◌, ◌==◌, ◌&&◌, nat_le, get_or, Bool, true, false, codes, if◌then◌else◌, List, [], ◌∷◌, ◌++◌, length, find, filter, map, zip, Option, None, Some, Ok, ok_or}
+use Rattle.std.specs.Prelude.{ℕ, ◌*◌, ◌-◌, ◌==◌, ◌&&◌, nat_le, get_or, Bool, true, false, codes, if◌then◌else◌, List, [], ◌∷◌, ◌++◌, length, find, filter, map, zip, Option, None, Some, Ok, ok_or}
 use Rattle.std.specs.List.{enumerate_from, list_all}
 use Rattle.std.specs.Fmt.{decimal}
 use Rattle.std.specs.Result.{result_map_both}
@@ -18,7 +18,8 @@ use Rattle.sqs_model.specs.declared.agents.Distribution.{Distribution}
 use Rattle.sqs_model.specs.declared.agents.Forwarding.{Forwarding}
 use Rattle.sqs_model.specs.declared.agents.Groups.{Groups}
 use Rattle.sqs_model.specs.declared.agents.Role.{Role}
-use Rattle.sqs_model.specs.declared.agents.Role.TheVariants.{Script, Producer, Consumer}
+use Rattle.sqs_model.specs.declared.agents.Role.TheVariants.{Script, Producer, Consumer, Scaler}
+use Rattle.sqs_model.specs.declared.agents.Scaling.{Scaling}
 use Rattle.sqs_model.specs.declared.agents.Serving.{Serving}
 use Rattle.sqs_model.specs.declared.agents.Serving.TheVariants.{Each, Once}
 use Rattle.sqs_formats.specs.Reading.{needs, ◌>>=◌}
@@ -29,7 +30,7 @@ use Rattle.sqs_formats.specs.Groups.{groups, groups_key}
 use Rattle.sqs_formats.specs.Names.{is_agent_name, is_script_name}
 use Rattle.sqs_formats.specs.Copies.{copy_names}
 use Rattle.sqs_formats.specs.Outages.{outage_keys, outages}
-use Rattle.sqs_formats.specs.Outline.{Outline, actor_place, first_task, is_fresh, name_of, queue_named, kin_named, kind_at, queue_text}
+use Rattle.sqs_formats.specs.Outline.{Outline, actor_place, first_task, is_fresh, name_of, queue_named, kin_named, scaler_named, second_copy, kind_at, queue_text}
 use Rattle.sqs_formats.specs.Queues.{latency_keys, latency}
 use Rattle.sqs_formats.specs.Script.{script}
 use Rattle.sqs_message.specs.Bodies.{filled}
@@ -201,7 +202,20 @@ service_keys by_quantiles = time_keys by_quantiles (codes "service") (codes "ser
 -- the keys that consumers have from version 3 on
 abbrev pub newer_consumer_keys : ℕ → List (List ℕ)
 newer_consumer_keys version =
-    if nat_le 3 version then codes "gather_ms" ∷ codes "stop_ms" ∷ codes "batch_service" ∷ codes "fails_on" ∷ codes "batch_fails" ∷ codes "backoff_s" ∷ codes "copies" ∷ [] else []
+    if nat_le 3 version then codes "gather_ms" ∷ codes "stop_ms" ∷ codes "batch_service" ∷ codes "fails_on" ∷ codes "batch_fails" ∷ codes "backoff_s" ∷ codes "copies" ∷ codes "scaler" ∷ [] else []
+
+-- the time that a copy takes to start goes with its scaler
+abbrev pub scaling_keys : Bool → List (List ℕ)
+scaling_keys true = codes "scaler_start_ms" ∷ []
+scaling_keys false = []
+
+-- by whom a consumer is scaled, if it is
+unfoldable pub scaling : Bool → Outline → ℕ → ℕ → Table → Says (Option Scaling)
+scaling false o home index t = Ok None
+scaling true o home index t = do
+  scaler ← required (scaler_named o home) t (codes "scaler")
+  start ← optional 0 (integer 0 86400000) t (codes "scaler_start_ms")
+  Ok (Some (record { scaler = scaler; second = second_copy o index; start = start }))
 
 -- a time for each message goes with what one service is of; only a consumer that does not say it may have heartbeats
 abbrev pub serving_keys : ℕ → Bool → List (List ℕ)
@@ -231,7 +245,8 @@ following_keys version t =
     serving_keys version (has_newer version t (codes "batch_service"))
     ++ (fail_service_keys version (is_once t) (is_whole t)
     ++ (outage_keys (has_newer version t (codes "fails_between_ms")) (has_newer version t (codes "fails_from_ms"))
-    ++ jitter_keys (has_newer version t (codes "backoff_s"))))
+    ++ (jitter_keys (has_newer version t (codes "backoff_s"))
+    ++ scaling_keys (has_newer version t (codes "scaler")))))
 
 -- all keys of a consumer
 abbrev pub all_consumer_keys : ℕ → Table → List (List ℕ)
@@ -278,8 +293,8 @@ failing t = do
   Ok (record { fails_on = fails_on; outages = outages; whole = whole; backoff = backoff; jitter = jitter; heartbeat = heartbeat })
 
 -- an actor that receives, serves and deletes
-abbrev pub consuming : Outline → ℕ → Table → Says Role
-consuming o home t = do
+abbrev pub consuming : Outline → ℕ → ℕ → Table → Says Role
+consuming o home index t = do
   known ← only (all_consumer_keys o.version t) t
   start ← optional 0 (integer 0 2592000000) t (codes "start_ms")
   batch ← optional 1 (integer 1 10) t (codes "batch")
@@ -293,6 +308,7 @@ consuming o home t = do
   idle ← optional 1000 (integer 1 86400000) t (codes "idle_ms")
   forward ← forward (has t (codes "forward")) o home t
   stop ← stopping start t
+  scaling ← scaling (has t (codes "scaler")) o home index t
   fails ← failing t
   Ok (Consumer (record {
     start = start;
@@ -307,6 +323,7 @@ consuming o home t = do
     idle = idle;
     forward = forward;
     stop = stop;
+    scaling = scaling;
     fails_on = fails.fails_on;
     outages = fails.outages;
     whole = fails.whole;
@@ -315,15 +332,52 @@ consuming o home t = do
     heartbeat = fails.heartbeat;
   }))
 
--- the kinds of actors, by their names
+-- the keys of a scaler
+abbrev pub scaler_keys : List (List ℕ)
+scaler_keys =
+    codes "start_ms" ∷ codes "every_s" ∷ codes "reading_s" ∷ codes "visible_per_copy" ∷ codes "copies_min" ∷ codes "copies_max" ∷ codes "added_max" ∷ codes "taken_max" ∷ codes "cooldown_out_s" ∷ codes "cooldown_in_s"
+    ∷ []
+
+-- an actor that says how many copies of consumers ask for messages
+abbrev pub scaler : Table → Says Role
+scaler t = do
+  known ← only (actor_keys ++ scaler_keys) t
+  start ← optional 0 (integer 0 2592000000) t (codes "start_ms")
+  every ← required (integer 1 86400) t (codes "every_s")
+  reading ← optional 0 (integer 0 (every - 1)) t (codes "reading_s")
+  target ← required (integer 1 1000000) t (codes "visible_per_copy")
+  least ← optional 1 (integer 0 1000) t (codes "copies_min")
+  most ← required (integer least 1000) t (codes "copies_max")
+  most_added ← optional 1000 (integer 1 1000) t (codes "added_max")
+  most_taken ← optional 1000 (integer 1 1000) t (codes "taken_max")
+  cooldown_out ← optional 0 (seconds 0 86400) t (codes "cooldown_out_s")
+  cooldown_in ← optional 0 (seconds 0 86400) t (codes "cooldown_in_s")
+  Ok (Scaler (record {
+    start = start;
+    every = 1000 * every;
+    reading = 1000 * reading;
+    target = target;
+    least = least;
+    most = most;
+    most_added = most_added;
+    most_taken = most_taken;
+    cooldown_out = cooldown_out;
+    cooldown_in = cooldown_in;
+  }))
+
+-- the kinds of actors of a version, by their names
 abbrev pub kinds_named : List (List ℕ × ActorKind)
 kinds_named = (codes "script", kinds.Script) ∷ (codes "producer", kinds.Producer) ∷ (codes "consumer", kinds.Consumer) ∷ []
 
+abbrev pub kinds_of : ℕ → List (List ℕ × ActorKind)
+kinds_of version = if nat_le 3 version then kinds_named ++ (codes "scaler", kinds.Scaler) ∷ [] else kinds_named
+
 -- what an actor of a kind does
-abbrev pub role : ActorKind → Files → Outline → ℕ → Table → Says Role
-role kinds.Script files o home t = scripted files o home t
-role kinds.Producer files o home t = producing o.version (kind_at o home) t
-role kinds.Consumer files o home t = consuming o home t
+abbrev pub role : ActorKind → Files → Outline → ℕ → ℕ → Table → Says Role
+role kinds.Script files o home index t = scripted files o home t
+role kinds.Producer files o home index t = producing o.version (kind_at o home) t
+role kinds.Consumer files o home index t = consuming o home index t
+role kinds.Scaler files o home index t = scaler t
 
 -- the names of copies have to be well-formed, no name before that of their actor may be one of them, and they have to
 -- have room
@@ -348,8 +402,8 @@ agents_of name settings (n ∷ ns) = map (λ name. (name, settings)) (n ∷ ns)
 unfoldable pub actor : Files → Outline → ℕ → Table → Says (List (List ℕ × ActorSettings))
 actor files o index t = do
   name ← required (name_of is_agent_name o (actor_place o index)) t (codes "name")
-  kind ← required (one_of kinds_named) t (codes "kind")
+  kind ← required (one_of (kinds_of o.version)) t (codes "kind")
   home ← required (queue_named o) t (codes "queue")
-  role ← role kind files o home t
+  role ← role kind files o home index t
   copies ← copies o index name t
   Ok (agents_of name (record { home = home; role = role }) copies)

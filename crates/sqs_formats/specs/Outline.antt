@@ -1,5 +1,6 @@
 -- What every part of a scenario's text may refer to: all names, and who has them.
-use Rattle.std.specs.Prelude.{ℕ, ◌+◌, ◌-◌, nat_le, Bool, true, not, ◌==◌, codes, if◌then◌else◌, List, [], ◌++◌, length, map, position, take, Option, Some, None, Ok, get_or, ok_or, unwrap_or}
+use Rattle.sqs_formats.specs.declared.scaler_text.ScalerText.{ScalerText}
+use Rattle.std.specs.Prelude.{ℕ, ◌+◌, ◌-◌, nat_le, Bool, true, not, ◌==◌, ◌&&◌, ◌∷◌, codes, find, if◌then◌else◌, option_map, List, [], ◌++◌, length, map, position, take, Option, Some, None, Ok, get_or, ok_or, unwrap_or}
 use Rattle.std.specs.List.{sum, sum_by}
 use Rattle.std.specs.Str.{bytes_eq}
 use Rattle.toml.specs.Data.{Data}
@@ -19,6 +20,15 @@ pub record Outline : Type 0 where
   pub tasks : List (List ℕ)
   pub task_homes : List (List ℕ)
   pub dead_letters : List (List ℕ)
+  pub scalers : List ScalerText
+
+-- the scalers among some actors, the first of which has this number
+abbrev pub scalers_from : ℕ → List Data → List ScalerText
+scalers_from n [] = []
+scalers_from n (d ∷ ds) =
+    if bytes_eq (text_in (codes "kind") d) (codes "scaler")
+    then record { number = n; name = text_in (codes "name") d; home = text_in (codes "queue") d } ∷ scalers_from (n + 1) ds
+    else scalers_from (n + 1) ds
 
 -- the outline of three lists of items, where actors have so many copies
 abbrev pub outline_with : ℕ → List Data → List Data → List Data → List ℕ → Outline
@@ -33,6 +43,7 @@ outline_with version queues actors tasks copies =
       tasks = map (text_in (codes "name")) tasks;
       task_homes = map (text_in (codes "queue")) tasks;
       dead_letters = map (text_in (codes "dead_letter")) queues;
+      scalers = scalers_from (length queues) actors;
     }
 
 -- how many copies besides the first ones there may be, since actors and tasks are at most 10,000
@@ -56,6 +67,10 @@ task_place o index = length o.queues + (length o.copies + sum o.copies) + index
 abbrev pub first_task : Outline → ℕ
 first_task o = length o.queues + (length o.copies + sum_by (λ n. n - 1) o.copies)
 
+-- the number that the second copy of an actor has, or would have
+abbrev pub second_copy : Outline → ℕ → ℕ
+second_copy o index = length o.queues + (length o.copies + sum_by (λ n. n - 1) (take index o.copies))
+
 -- the first place of a text
 abbrev pub place_among : List (List ℕ) → List ℕ → Option ℕ
 place_among texts s = position (λ t. bytes_eq t s) texts
@@ -67,6 +82,14 @@ queue_number o s = place_among o.queues s
 -- the name of a queue
 abbrev pub queue_text : Outline → ℕ → List ℕ
 queue_text o n = get_or o.queues n []
+
+-- whether a scaler has this name and is at a queue of that name
+abbrev pub is_scaler_at : List ℕ → List ℕ → ScalerText → Bool
+is_scaler_at name home s = bytes_eq s.name name && bytes_eq s.home home
+
+-- the number of the scaler of a name at a queue
+abbrev pub scaler_number : Outline → ℕ → List ℕ → Option ℕ
+scaler_number o home name = option_map (λ (s : ScalerText). s.number) (find (is_scaler_at name (queue_text o home)) o.scalers)
 
 -- whether a queue is FIFO
 abbrev pub kind_at : Outline → ℕ → Bool
@@ -116,6 +139,10 @@ source_named o place d = do
   s ← text place d
   n ← queue_named o place d
   needs (is_among o.dead_letters s) (fault_at UnknownQueue place) n
+
+-- a key whose value is the name of a scaler of the home
+unfoldable pub scaler_named : Outline → ℕ → KeyType ℕ
+scaler_named o home place d = text place d >>= (λ s. ok_or (scaler_number o home s) (fault_at UnknownQueue place))
 
 -- a dead-letter queue, whose name is judged once all queues are read
 unfoldable pub dead_letter_named : Outline → KeyType ℕ

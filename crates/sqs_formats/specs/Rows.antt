@@ -52,6 +52,7 @@ kind_text kinds.Move = codes "move"
 kind_text kinds.Arrive = codes "arrive"
 kind_text kinds.Expire = codes "expire"
 kind_text kinds.Task = codes "task"
+kind_text kinds.Scale = codes "scale"
 kind_text kinds.Sample = codes "sample"
 
 -- the name of how it went
@@ -87,6 +88,7 @@ detail_text names (details.Timeout s) = decimal s
 detail_text names (details.Queue n) = name_at names n
 detail_text names (details.Task n) = name_at names n
 detail_text names (details.Moved n) = decimal n
+detail_text names (details.Copies from to) = decimal from ++ (codes "/" ++ decimal to)
 detail_text names (details.Counts visible in_flight delayed) =
     decimal visible ++ (codes "/" ++ (decimal in_flight ++ (codes "/" ++ decimal delayed)))
 

@@ -6,4 +6,5 @@ pub enum ActorKind {
     Script,
     Producer,
     Consumer,
+    Scaler,
 }

@@ -8,9 +8,11 @@ mod failing;
 mod faults;
 mod home;
 mod laws;
+mod scaler_text;
 
 pub use actor_kind::ActorKind;
 pub use failing::Failing;
 pub use faults::{ScenarioFault, ScriptFault};
 pub use home::{Home, HomeTask, HomeTasks};
 pub use laws::{lines_join, versions_stay};
+pub use scaler_text::ScalerText;
