@@ -5,7 +5,7 @@ use Rattle.sqs_model.specs.declared.acts.Act.{Act}
 use Rattle.sqs_model.specs.declared.acts.Act.TheVariants as acts
 use Rattle.sqs_model.specs.declared.agents.ActorSettings.{ActorSettings}
 use Rattle.sqs_model.specs.declared.agents.Role.{Role}
-use Rattle.sqs_model.specs.declared.agents.Role.TheVariants.{Consumer, Producer, Script}
+use Rattle.sqs_model.specs.declared.agents.Role.TheVariants.{Consumer, Producer, Scaler, Script}
 use Rattle.sqs_redrive.specs.declared.settings.QueueSettings.{QueueSettings}
 use Rattle.sqs_redrive.specs.declared.settings.TaskSettings.{TaskSettings}
 use Rattle.sqs_model.specs.Actor.{act_of}
@@ -34,6 +34,7 @@ WaitsShortly (acts.Prolong receipt timeout) = Unit {0}
 WaitsShortly (acts.Start task) = Unit {0}
 WaitsShortly (acts.Cancel task) = Unit {0}
 WaitsShortly (acts.Serve id receipt failed forwards) = Unit {0}
+WaitsShortly (acts.Scale from to) = Unit {0}
 WaitsShortly acts.Nothing = Unit {0}
 
 -- the same of a script's call
@@ -45,6 +46,7 @@ abbrev pub HasShortWaits : Role → Type 0
 HasShortWaits (Script script) = All (λ c. WaitsWithin c.call) script
 HasShortWaits (Producer p) = Unit {0}
 HasShortWaits (Consumer c) = c.wait ≤ most_wait
+HasShortWaits (Scaler s) = Unit {0}
 
 -- a task's number and its settings
 abbrev pub numbered_settings : Task → ℕ × TaskSettings

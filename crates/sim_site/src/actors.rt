@@ -1,5 +1,5 @@
 //! The actors of a site; if there are many, with a tree of their wakes.
-ghost use Rattle.std.specs.Prelude.{All, IfErr, IfOk, IfSome, MatchOption, Some, false, flat_map, length, map, position, true, ◌<◌, ◌≡◌, ◌≤◌};
+ghost use Rattle.std.specs.Prelude.{All, IfErr, IfOk, IfSome, MatchOption, Some, false, find, flat_map, length, map, option_map, position, true, ◌<◌, ◌≡◌, ◌≤◌};
 ghost use Rattle.std.specs.List.Sorted.{IsNonDecreasingBy};
 ghost use Rattle.sim_actor.specs.Lives.{answer_of};
 ghost use Rattle.sim_clock.specs.Order.{least};
@@ -8,6 +8,7 @@ ghost use Rattle.sqs_model.specs.Counts.{actor_count, greatest};
 ghost use Rattle.sqs_model.specs.Dues.{actor_dues};
 ghost use Rattle.sim_clock.specs.Places.{IsAbsent, Stands};
 ghost use Rattle.sqs_model.specs.Site.{is_actor};
+ghost use Rattle.sqs_model.specs.Step.{standing_of};
 ghost use Rattle.sim_engine.specs.Limits.{StopsWhere};
 ghost use Rattle.sim_site.specs.Kept.{HasShortWaits, IsCount, WaitsShortly};
 ghost use Rattle.sim_index.specs.Marked.{AreMarked};
@@ -19,7 +20,7 @@ use crate::dues::least_wake_of;
 use sim_actor::{Actor, FollowUp, Reply};
 use sim_clock::{Key, Refusal};
 use sim_index::{Mark, MarkedList};
-use sqs_model::{Act, Answer};
+use sqs_model::{Act, Answer, Role, Standing};
 use std::alloc::{AllocError, Global};
 use std::marker::Model;
 
@@ -279,24 +280,51 @@ impl Actors {
         self.search(number)
     }
 
-    /// The actor at `place` decides what it does when its wake has come. `now` is in milliseconds.
+    /// What the actor at `place` does.
+    pub fn role_at(&self, place: usize, number: u32) -> &Role
+        requires { Stands (is_actor number) self.now place }
+        ensures { option_map (λ a. a.settings.role) (find (is_actor number) self.now)
+            ≡ Some result.now }
+    {
+        &self.list.values()[place].settings().role
+    }
+
+    /// What copies go by whose scaler is the actor with a number. Nothing if it is none.
+    pub fn standing_of(&self, number: u32) -> Standing
+        ensures { result ≡ standing_of (find (is_actor number) self.now) }
+    {
+        match self.search(number) {
+            None => Standing::none(),
+            Some(place) => self.list.values()[place].standing(),
+        }
+    }
+
+    /// The actor at `place` decides what it does when its wake has come, by what it goes by. `now` is
+    /// in milliseconds.
     ///
     /// # Errors
     ///
     /// `Memory`. `CountLimit` if the actor would count past the limit.
-    pub fn woken_at(&mut self, place: usize, number: u32, now: u64) -> Result<Act, Refusal>
+    pub fn woken_at(
+        &mut self,
+        place: usize,
+        number: u32,
+        now: u64,
+        standing: Standing,
+    ) -> Result<Act, Refusal>
         requires place { Stands (is_actor number) self.old place }
         requires moment { now ≤ most_count }
         ensures turned { IfOk result
-            (λ act. Turned number now Answer.Wake act self.old self.new) }
+            (λ act. Turned number now (Answer.Wake standing) act self.old self.new) }
         ensures settings { map (λ a. a.settings) self.new ≡ map (λ a. a.settings) self.old }
         ensures waits { All (λ a. HasShortWaits a.role) (map (λ a. a.settings) self.old)
             → IfOk result WaitsShortly }
-        ensures stops { IfErr result (StopsWhere (PassesTurn number now Answer.Wake self.old)) }
+        ensures stops { IfErr result (StopsWhere (PassesTurn number now
+            (Answer.Wake standing) self.old)) }
     {
         turn_to(&mut self.list, self.are_few, self.told, place);
         self.told = Some(place);
-        self.list.value_mut(place).woken(now)
+        self.list.value_mut(place).woken(now, standing)
     }
 
     /// The actor at `place` decides what it does on a reply. `now` is in milliseconds.

@@ -15,6 +15,7 @@ mod polls;
 mod receives;
 mod returns;
 mod samples;
+mod scaling;
 mod sends;
 mod services;
 mod steps;

@@ -4,7 +4,8 @@ ghost use Rattle.std.specs.Result.{result_map_both};
 ghost use Rattle.sim_actor.specs.Lives.{act_following, answer_of};
 ghost use Rattle.sqs_model.specs.Acts.{act_made};
 ghost use Rattle.sqs_model.specs.Progress.{IsRecent};
-ghost use Rattle.sqs_model.specs.Step.{handle_wake};
+ghost use Rattle.sqs_model.specs.Site.{actor_numbered};
+ghost use Rattle.sqs_model.specs.Step.{handle_wake, woken_by};
 ghost use Rattle.sim_site.specs.Effects.{Handles};
 ghost use Rattle.sim_site.specs.Kept.{WaitsShortly};
 ghost use Rattle.sim_site.specs.Turns.{TakesTurn, answer_if, TakesAct, ActsMost};
@@ -54,6 +55,7 @@ impl Core {
                 failed,
                 forwards,
             } => self.serve(handling, id, receipt, failed, forwards),
+            Act::Scale { from, to } => self.scale(handling, from, to),
             Act::Nothing => return Ok(None),
         };
         reply_to(done)
@@ -85,13 +87,15 @@ impl Core {
     fn first_turn(&mut self, handling: &mut Handling<'_>) -> Result<Option<Reply>, Refusal>
         requires { IsRecent handling.old.key.at self.old.queue }
         ensures { TakesTurn (option_map answer_of) result handling.old handling.new self.old
-            self.new Answer.Wake }
+            self.new (Answer.Wake
+            (woken_by self.old (actor_numbered handling.old.agent self.old))) }
     {
         let (now, agent) = (handling.key.at, handling.agent);
         let Some(place) = self.actors.place_of(agent) else {
             return Ok(None);
         };
-        let act = self.actors.woken_at(place, agent, now)?;
+        let standing = self.standing_at(place, agent);
+        let act = self.actors.woken_at(place, agent, now, standing)?;
         self.act(handling, act)
     }
 

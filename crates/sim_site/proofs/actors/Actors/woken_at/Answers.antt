@@ -24,8 +24,8 @@ stands c = subst (λ (xs : List Actor). Stands (is_actor c.args.number) xs c.arg
 pub returns-clause-turned : goal.returns-clause-turned
 returns-clause-turned c =
     let now = c.turn_to.new.actors.values in
-    subst (λ (xs : List Actor). IfOk c.woken.result (λ act. Turned c.args.number c.args.now Wake act xs (set now c.args.place c.woken.new.self))) (same c)
-    (turned_if c.args.number now c.args.place (stands c) c.value_mut.result.now c.value_mut.ensures.value c.args.now Wake c.woken.result c.woken.new.self c.woken.ensures.decision c.woken.ensures.framed)
+    subst (λ (xs : List Actor). IfOk c.woken.result (λ act. Turned c.args.number c.args.now (Wake c.args.standing) act xs (set now c.args.place c.woken.new.self))) (same c)
+    (turned_if c.args.number now c.args.place (stands c) c.value_mut.result.now c.value_mut.ensures.value c.args.now (Wake c.args.standing) c.woken.result c.woken.new.self c.woken.ensures.decision c.woken.ensures.framed)
 
 pub returns-clause-settings : goal.returns-clause-settings
 returns-clause-settings c =
@@ -35,7 +35,7 @@ returns-clause-settings c =
 pub returns-clause-waits : goal.returns-clause-waits
 returns-clause-waits c h =
     let before = subst (λ (xs : List Actor). All (λ (a : ActorSettings). HasShortWaits a.role) (map (λ (a : Actor). a.settings) xs)) (sym (same c)) h in
-    waits_if c.args.number c.turn_to.new.actors.values c.args.place (stands c) c.value_mut.result.now c.value_mut.ensures.value c.args.now Wake c.woken.result c.woken.new.self c.woken.ensures.decision before
+    waits_if c.args.number c.turn_to.new.actors.values c.args.place (stands c) c.value_mut.result.now c.value_mut.ensures.value c.args.now (Wake c.args.standing) c.woken.result c.woken.new.self c.woken.ensures.decision before
 
 pub invariant_of-self : goal.invariant_of-self
 invariant_of-self c =

@@ -14,7 +14,7 @@ use Rattle.sim_site.specs.Turns.{Takes, Turn, turn_by}
 use Rattle.sim_site.specs.declared.handling.Handling.{Handling}
 use Rattle.sim_site.proofs.Told.{cancel_done_is, change_done_is, delete_done_is, serve_done_is, start_done_is}
 use Rattle.sim_site.proofs.state.Core.act.Goals as goal
-use Rattle.sim_site.proofs.state.Core.act.Goals.{in-Send, in-Delete, in-Change, in-Prolong, in-Start, in-Cancel, in-Serve}
+use Rattle.sim_site.proofs.state.Core.act.Goals.{in-Send, in-Delete, in-Change, in-Prolong, in-Start, in-Cancel, in-Serve, in-Scale}
 
 -- a turn by an act that is no receive, as far as it is done
 abbrev IsDone : Result (Unit {0}) Refusal → Handling → Handling → Core → Turn → Type 0
@@ -66,5 +66,9 @@ returns c a e f =
           rw (w.self-is, w.handling-is, w.done-is)
           (subst (λ (x : Act). IsDone w.serve-done.result c.args.handling.now w.serve-done.new.handling w.serve-done.new.self (turn_by x (act_made key a core x))) (sym w.in-Serve.is)
           (w.serve-done.ensures a e, serve_done_is key a core w.in-Serve.id w.in-Serve.receipt w.in-Serve.failed w.in-Serve.forwards))
+      | in-Scale w ↦
+          rw (w.self-is, w.handling-is, w.done-is)
+          (subst (λ (x : Act). IsDone w.scale-done.result c.args.handling.now w.scale-done.new.handling w.scale-done.new.self (turn_by x (act_made key a core x))) (sym w.in-Scale.is)
+          (w.scale-done.ensures a e, refl))
     ] in
     rw c.reply_to.ensures (takes c.match-act.done c.args.handling.now c.match-act.handling c.match-act.self (turn_by c.args.act (act_made key a core c.args.act)) done)
