@@ -20,13 +20,18 @@ use Rattle.sqs_model.specs.declared.agents.ActorSettings.{ActorSettings}
 use Rattle.sqs_model.specs.declared.agents.Role.{Role}
 use Rattle.sqs_model.specs.declared.agents.Role.TheVariants.{Consumer, Producer, Script}
 use Rattle.sqs_model.specs.declared.agents.Serving.{Serving}
-use Rattle.sqs_model.specs.Actor.{Actor, Asked, Beat, Ended, Failed, Gathered, Served, LastAct, act_of, begins, begins_decided, begins_first, drawn_failure, ends_by, ends_service, ends_well, ends_whole, first_at, next_beat, outcome, service_of, wakes_after}
+use Rattle.sqs_model.specs.Actor.{Actor, Asked, Beat, Ended, Failed, Gathered, Served, LastAct, act_of, begins, begins_decided, begins_first, drawn_failure, ends_by, ends_service, ends_well, ends_whole, first_at, forward_of, forwards, has_forwarded, next_beat, outcome, sent_one, service_of, wakes_after}
 use Rattle.sqs_model.specs.Answers.{most_count}
-use Rattle.sqs_model.specs.Draw.{Draws, drawn_time}
+use Rattle.sqs_model.specs.Draw.{Draws, drawn_latency, drawn_time}
 use Rattle.sqs_model.specs.Valid.{IsConsumer, IsProducer}
 use Rattle.sqs_redrive.specs.declared.answers.Got.{Got}
 use Rattle.sqs_model.specs.declared.agents.ConsumerSettings.{ConsumerSettings}
 use Rattle.sqs_model.specs.declared.agents.Distribution.{Distribution}
+use Rattle.sqs_model.specs.declared.agents.Forwarding.{Forwarding}
+use Rattle.sqs_redrive.specs.declared.settings.Latency.{Latency}
+use Rattle.sqs_redrive.specs.declared.transfers.Load.{Load}
+use Rattle.sqs_redrive.specs.declared.transfers.Load.TheVariants as loads
+use Rattle.sqs_redrive.specs.declared.transfers.Outbound.{Outbound}
 
 -- a role whose settings are in range; a script has at most 100,000 calls
 abbrev pub IsRole : Role → Type 0
@@ -87,10 +92,11 @@ pub record IsFramed (old new : Actor) : Type 0 where
   pub settings : new.settings ≡ old.settings
 
 -- an act and the actor after it are the definition's; a count at its limit is returned only if the definition would
--- count past it
+-- count past it, and want of memory only if it would not
 abbrev pub Decides : Result Act Refusal → Actor → Act × Actor → Type 0
 Decides (Ok act) new model = model ≡ (act, new)
 Decides (Err refusals.CountLimit) new model = most_count < greatest_count model.1
+Decides (Err refusals.Memory) new model = greatest_count model.1 ≤ most_count
 Decides (Err e) new model = ⊥
 
 -- the same if the definition returns only the actor
@@ -99,18 +105,18 @@ Becomes (Ok u) new model = model ≡ new
 Becomes (Err refusals.CountLimit) new model = most_count < greatest_count model
 Becomes (Err e) new model = ⊥
 
--- whether a service fails, and the draws after that, are the definition's
-abbrev pub Drawn : Result Bool Refusal → Draws → Bool × Draws → Type 0
-Drawn (Ok failed) new model = model ≡ (failed, new)
-Drawn (Err refusals.CountLimit) new model = most_count < model.1.taken
-Drawn (Err e) new model = ⊥
-
--- the same of a decision that may also want memory: it then counts past no limit, and the actor is as it was
+-- the same of a decision after which the actor is as it was if memory runs out
 abbrev pub Meets : Result Act Refusal → Actor → Actor → Act × Actor → Type 0
 Meets (Ok act) old new model = model ≡ (act, new)
 Meets (Err refusals.CountLimit) old new model = most_count < greatest_count model.1
 Meets (Err refusals.Memory) old new model = (new ≡ old) × (greatest_count model.1 ≤ most_count)
 Meets (Err e) old new model = ⊥
+
+-- whether a service fails, and the draws after that, are the definition's
+abbrev pub Drawn : Result Bool Refusal → Draws → Bool × Draws → Type 0
+Drawn (Ok failed) new model = model ≡ (failed, new)
+Drawn (Err refusals.CountLimit) new model = most_count < model.1.taken
+Drawn (Err e) new model = ⊥
 
 -- the definitions' word for a reply
 abbrev pub answer_of : Reply → Answer
@@ -215,3 +221,30 @@ EndsAnywhere id receipt act old new decision = (home : ℕ) → EndsThis home id
 -- how a decision of the actor with a life agrees with the definition's, whatever its settings
 abbrev pub Lives : {R : Type 0} → (R → Actor → Act × Actor → Type 0) → R → Life → Life → (Actor → Act × Actor) → Type 0
 Lives agrees result old new decision = Lived old new (λ a b. agrees result b (decision a))
+
+-- whether a life can count so many transfers more, and a word for each latency that varies
+abbrev pub HasRoom : ℕ → Latency → Life → Type 0
+HasRoom transfers l life = (life.sent + transfers ≤ most_count) × (l.least < l.greatest → life.draws.taken + transfers ≤ most_count)
+
+-- what is sent of a message that is forwarded
+abbrev pub load_of : Got → Load
+load_of g = loads.Forward g.id g.group g.body
+
+-- a transfer of a message to a queue by the actor with a life, at home there, is the definition's, whatever its settings
+abbrev pub SendsOne : ℕ → ℕ → Load → ℕ → Latency → Outbound → Life → Life → Type 0
+SendsOne home now load to l result old new =
+    (s : ActorSettings) (g : Got) → s.home ≡ home → load_of g ≡ load
+    → (forward_of (lived s old) now g to (drawn_latency l old.draws).0 ≡ result) × (sent_one l (lived s old) ≡ lived s new)
+
+-- so are those to all queues to which it forwards
+abbrev pub SendsAll : ℕ → ℕ → Got → Forwarding → List Outbound → Life → Life → Type 0
+SendsAll home now g f sent old new =
+    (s : ActorSettings) → s.home ≡ home
+    → (forwards (lived s old) now g f.latency f.to ≡ sent) × (has_forwarded f.latency f.to (lived s old) ≡ lived s new)
+
+-- the same where it may fail, as a decision may
+abbrev pub Forwards : ℕ → ℕ → Got → Forwarding → Result (List Outbound) Refusal → Life → Life → Type 0
+Forwards home now g f (Ok sent) old new = SendsAll home now g f sent old new
+Forwards home now g f (Err refusals.CountLimit) old new = (s : ActorSettings) → most_count < greatest_count (has_forwarded f.latency f.to (lived s old))
+Forwards home now g f (Err refusals.Memory) old new = (s : ActorSettings) → greatest_count (has_forwarded f.latency f.to (lived s old)) ≤ most_count
+Forwards home now g f (Err e) old new = ⊥

@@ -7,6 +7,7 @@ ghost use Rattle.sim_actor.specs.Lives.{Becomes, Lived, wakes_by};
 
 mod consumer;
 mod failing;
+mod forwarding;
 mod gathering;
 mod producer;
 mod script;

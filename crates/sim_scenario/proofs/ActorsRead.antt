@@ -1,8 +1,10 @@
 -- What each actor of a text says: its name, its ranges, its home, and what it does there.
 use Rattle.std.proofs.Common.{◌≡◌, ◌∙◌, ℕ, zero, suc, ◌<◌, ◌≤◌, Bool, true, false, codes, List, [], ◌∷◌, length, get_or, map, Option, Some, None, Result, Ok, Err, refl, sym, subst, ap, arith, lit≤}
-use Rattle.std.specs.Prelude.{All}
+use Rattle.std.specs.Prelude.{All, nat_le, ◌&&◌}
+use Rattle.std.specs.Option.{is_some}
+use Rattle.toml.specs.Data.{as_array}
 use Rattle.std.proofs.lemmas.Bool.Decides.{Decides-eqb}
-use Rattle.std.proofs.lemmas.List.Elements.{All-cons, All-head, All-nil, All-tail}
+use Rattle.std.proofs.lemmas.List.Elements.{All-append, All-cons, All-head, All-nil, All-tail}
 use Rattle.std.proofs.lemmas.List.FromFn.{length-map-range_with_len}
 use Rattle.std.proofs.lemmas.List.Sums.{AllPass-from_list_all}
 use Rattle.std.specs.Result.{result_map_both}
@@ -14,7 +16,7 @@ use Rattle.sqs_formats.specs.declared.home.Home.{Home}
 use Rattle.sqs_formats.specs.Keys.{Table, at, has, integer, optional, place_of, seconds, text_when}
 use Rattle.sqs_formats.specs.Copies.{copy_name, copy_names}
 use Rattle.sqs_formats.specs.Names.{is_agent_name}
-use Rattle.sqs_formats.specs.Outline.{Outline, actor_place, is_fresh, kin_named, kind_at, queue_named, queue_number}
+use Rattle.sqs_formats.specs.Outline.{Outline, actor_place, is_fresh, kin_named, kins_by, kins_named, kind_at, queue_named, queue_number}
 use Rattle.sqs_formats.specs.Actors.{Files, actor, agents_of, copies, calls, calls_by, calls_in, consuming, failing, forward, gap, home_of, producing, role, script_fault, script_file, scripted, sending, service, serving, serving_of, stopping}
 use Rattle.sqs_formats.specs.Script.{script}
 use Rattle.sqs_model.specs.declared.agents.ActorSettings.{ActorSettings}
@@ -26,7 +28,7 @@ use Rattle.sqs_model.specs.declared.agents.Role.{Role}
 use Rattle.sqs_model.specs.declared.agents.Role.TheVariants.{Consumer, Producer, Script}
 use Rattle.sqs_model.specs.declared.agents.Serving.{Serving}
 use Rattle.sqs_model.specs.Longest.{longest_delay, longest_timeout}
-use Rattle.sqs_model.specs.Valid.{IsDistribution, IsOutage, IsServing, MayBeFailService, MayBeForward, MayBeGroups, MayBeHeartbeat, MayBeMoment, MayBeTimeout}
+use Rattle.sqs_model.specs.Valid.{Between, IsDistribution, IsOutage, IsServing, MayBeFailService, MayBeForward, MayBeGroups, MayBeHeartbeat, MayBeMoment, MayBeTimeout}
 use Rattle.sqs_formats.specs.Lists.{integers}
 use Rattle.sim_script.specs.Ranges.{IsCallAt, IsScriptOf}
 use Rattle.sim_scenario.specs.AtHome.{IsSendingAt, MayDelay}
@@ -38,7 +40,7 @@ use Rattle.sim_scenario.proofs.Admits.{Admits, integer_admits, maybe_admits, may
 use Rattle.sim_scenario.proofs.QueueRanges.{latency_in_range}
 use Rattle.sim_scenario.proofs.GroupsRead.{groups_in_range}
 use Rattle.sim_scenario.proofs.OutagesRead.{outages_in_range}
-use Rattle.sim_scenario.proofs.QuantilesRead.{integers_hold, time_in_range}
+use Rattle.sim_scenario.proofs.QuantilesRead.{integers_hold, list_holds, time_in_range}
 use Rattle.sim_script.proofs.ScriptRanges.{script_in_range}
 
 -- a script in the scenario
@@ -66,10 +68,14 @@ unfolding calls_by
 calls_by_in_range false files home t cs e = required_admits (IsScriptOf home) (calls home) (own_in_range home) t (codes "calls") cs e
 calls_by_in_range true files home t cs e = required_admits (IsScriptOf home) (script_file files home) (file_in_range files home) t (codes "script") cs e
 
--- a consumer forwards to a queue of its home's kind
+-- a queue of the home's kind
+abbrev pub IsKin : Outline → ℕ → ℕ → Type 0
+IsKin o home n = (n < length o.queues) × (kind_at o n ≡ kind_at o home)
+
+-- a consumer forwards to queues of its home's kind
 abbrev pub ForwardKin : Outline → ℕ → Option Forwarding → Type 0
 ForwardKin o home None = Unit {0}
-ForwardKin o home (Some f) = (f.to < length o.queues) × (kind_at o f.to ≡ kind_at o home)
+ForwardKin o home (Some f) = All (IsKin o home) f.to
 
 -- a role fits its home
 abbrev pub RoleSays : Outline → ℕ → Role → Type 0
@@ -104,7 +110,7 @@ pub record ActorSays (o : Outline) (index : ℕ) (t : Table) (agents : List (Lis
   pub formed : All (λ a. is_agent_name a.0 ≡ true) agents
   pub each : All (λ a. AgentSays o t a.1) agents
 
-kin_says : (o : Outline) (home : ℕ) → Admits (λ n. (n < length o.queues) × (kind_at o n ≡ kind_at o home)) (kin_named o home)
+kin_says : (o : Outline) (home : ℕ) → Admits (IsKin o home) (kin_named o home)
 unfolding kin_named
 kin_says o home place d n e =
     let m = parts _ _ _ e in
@@ -112,14 +118,30 @@ kin_says o home place d n e =
     let here = below o (text_when (Some d)) m.0 (queue_says_number o place d m.0 m.1) in
     rw (← kin.1) (here, kin.0)
 
+-- 1 to 10 of them
+abbrev AreKins : Outline → ℕ → List ℕ → Type 0
+AreKins o home tos = All (IsKin o home) tos × Between 1 10 (length tos)
+
+kins_by_says : (o : Outline) (home : ℕ) (b : Bool) → Admits (AreKins o home) (kins_by b o home)
+kins_by_says o home true place d tos e =
+    list_holds (All (IsKin o home)) 1 10 (λ count before. kin_named o home) (All-nil (IsKin o home))
+    (λ n xs at d x p e. All-append (IsKin o home) xs (x ∷ []) p (All-cons (IsKin o home) x [] (kin_says o home at d x e) (All-nil (IsKin o home)))) place d tos e
+kins_by_says o home false place d tos e =
+    let one = parts _ _ _ e in
+    rw (← same_ok _ _ one.2) (All-cons (IsKin o home) one.0 [] (kin_says o home place d one.0 one.1) (All-nil (IsKin o home)), (lit≤ tt, lit≤ tt))
+
+kins_says : (o : Outline) (home : ℕ) → Admits (AreKins o home) (kins_named o home)
+unfolding kins_named
+kins_says o home place d tos e = kins_by_says o home (nat_le 3 o.version && is_some (as_array d)) place d tos e
+
 forward_reads : (o : Outline) (home : ℕ) (b : Bool) (t : Table) (f : Option Forwarding) → forward b o home t ≡ Ok f → ForwardKin o home f × MayBeForward f
 unfolding forward
 forward_reads o home false t f e = rw (← same_ok _ _ e) (tt, tt)
 forward_reads o home true t f e =
     let to = parts _ _ _ e in
     let within = parts _ _ _ to.2 in
-    let says = required_admits (λ n. (n < length o.queues) × (kind_at o n ≡ kind_at o home)) (kin_named o home) (kin_says o home) t (codes "forward") to.0 to.1 in
-    rw (← same_ok _ _ within.2) (says, latency_in_range o.version t within.0 within.1)
+    let says = required_admits (AreKins o home) (kins_named o home) (kins_says o home) t (codes "forward") to.0 to.1 in
+    rw (← same_ok _ _ within.2) (says.0, record { count = says.1; latency = latency_in_range o.version t within.0 within.1 })
 
 -- an actor stops within the longest run
 stop_reads : (start : ℕ) (t : Table) (s : Option ℕ) → stopping start t ≡ Ok s → MayBeMoment s

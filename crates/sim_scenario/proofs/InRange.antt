@@ -24,7 +24,7 @@ use Rattle.std.proofs.lemmas.List.{length-map}
 use Rattle.sim_scenario.specs.Ranges.{ForwardsWithin, IsInRange, IsLinked, IsRoleInRange, RoleWithin}
 use Rattle.sim_scenario.proofs.Links.{below, each_length}
 use Rattle.sim_scenario.proofs.KinRead.{IsOtherKin, queue_says, task_says}
-use Rattle.sim_scenario.proofs.ActorsRead.{ForwardKin, RoleSays}
+use Rattle.sim_scenario.proofs.ActorsRead.{ForwardKin, IsKin, RoleSays}
 use Rattle.sim_scenario.proofs.Copying.{beside}
 use Rattle.sim_scenario.proofs.Families.{each_agent}
 use Rattle.sim_scenario.proofs.WholeFamilies.{agents_count, agents_few}
@@ -45,7 +45,7 @@ queue_sound q h = record { retention = omega (arith, h.retention.0); policy = po
 
 forward_sound : (f : Option Forwarding) → MayBeForward f → IsSoundForward f
 forward_sound None h = tt
-forward_sound (Some f) h = h.least
+forward_sound (Some f) h = h.latency.least
 
 distribution_sound : (d : Distribution) → IsDistribution d → IsSoundDistribution d
 distribution_sound (Uniform low high) h = h.0
@@ -67,7 +67,8 @@ other_within o home (Some n) h = h.0
 
 forwards_within : (o : Outline) (home : ℕ) (f : Option Forwarding) → ForwardKin o home f → ForwardsWithin (length o.queues) f
 forwards_within o home None h = tt
-forwards_within o home (Some f) h = h.0
+forwards_within o home (Some f) h =
+    All-weaker (IsKin o home) (λ n. n < length o.queues) (λ n e. e.0) f.to h
 
 role_within : (o : Outline) (home : ℕ) (r : Role) → RoleSays o home r → RoleWithin (length o.queues) r
 role_within o home (Script calls) h = tt

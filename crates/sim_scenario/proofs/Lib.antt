@@ -1,3 +1,4 @@
+pub mod ActorWays
 pub mod UnknownKeys
 pub mod Suffixes
 pub mod Listing

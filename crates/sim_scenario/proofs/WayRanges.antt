@@ -34,18 +34,18 @@ policy_range : (n : ℕ) (p : Option Policy) → MayBePolicy p → All IsEdge (p
 policy_range n None h = All-nil IsEdge
 policy_range n (Some p) h = one_range n p.dead_letter p.latency h.latency
 
+goals_range : (from : ℕ) (l : Latency) (goals : List ℕ) → IsLatency l → All IsEdge (map (λ to. edge from to l) goals)
+goals_range from l [] h = All-nil IsEdge
+goals_range from l (to ∷ goals) h = All-cons IsEdge (edge from to l) (map (λ to. edge from to l) goals) (edge_range from to l h) (goals_range from l goals h)
+
 forward_range : (n : ℕ) (f : Option Forwarding) → MayBeForward f → All IsEdge (forward_edges n f)
 forward_range n None h = All-nil IsEdge
-forward_range n (Some f) h = one_range n f.to f.latency h
+forward_range n (Some f) h = goals_range n f.latency f.to h.latency
 
 role_range : (n : ℕ) (r : Role) → IsRoleInRange r → All IsEdge (role_edges n r)
 role_range n (Script calls) h = All-nil IsEdge
 role_range n (Producer p) h = All-nil IsEdge
 role_range n (Consumer c) h = forward_range n c.forward h.forward
-
-goals_range : (from : ℕ) (l : Latency) (goals : List ℕ) → IsLatency l → All IsEdge (map (λ to. edge from to l) goals)
-goals_range from l [] h = All-nil IsEdge
-goals_range from l (to ∷ goals) h = All-cons IsEdge (edge from to l) (map (λ to. edge from to l) goals) (edge_range from to l h) (goals_range from l goals h)
 
 pub ways_in_range : (s : Scenario) → IsInRange s → All (λ e. (1 ≤ e.least) × (e.least ≤ 900000)) (edges s)
 ways_in_range s h =

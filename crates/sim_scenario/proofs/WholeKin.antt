@@ -21,7 +21,7 @@ use Rattle.sim_scenario.specs.Kinds.{ForwardsToKin, MayBeOtherKin, NamesKin, Rol
 use Rattle.sqs_formats.specs.Scenario.{by_number, whole}
 use Rattle.sim_scenario.proofs.ItemsRead.{each_both, each_named}
 use Rattle.sim_scenario.proofs.KinRead.{IsOfNamedKind, IsOtherKin, kinds_are, queue_kin, queue_says, task_says}
-use Rattle.sim_scenario.proofs.ActorsRead.{ForwardKin, RoleSays}
+use Rattle.sim_scenario.proofs.ActorsRead.{ForwardKin, IsKin, RoleSays}
 use Rattle.sim_scenario.proofs.Families.{each_agent}
 use Rattle.sim_scenario.proofs.QueueRanges.{each_holds}
 
@@ -46,7 +46,8 @@ other_kin o s h home (Some n) k = (k.1, kin_by o s h n home k.2)
 
 forward_to_kin : (o : Outline) (s : Scenario) → AreOfKinds o s → (home : ℕ) (f : Option Forwarding) → ForwardKin o home f → ForwardsToKin s home f
 forward_to_kin o s h home None k = tt
-forward_to_kin o s h home (Some f) k = kin_by o s h f.to home k.1
+forward_to_kin o s h home (Some f) k =
+    All-weaker (IsKin o home) (λ n. is_fifo_queue s n ≡ is_fifo_queue s home) (λ n e. kin_by o s h n home e.1) f.to k
 
 role_names_kin : (o : Outline) (s : Scenario) → AreOfKinds o s → (home : ℕ) (r : Role) → RoleSays o home r → RoleNamesKin s home r
 role_names_kin o s h home (Script calls) k = tt

@@ -32,10 +32,10 @@ abbrev pub dead_letter_of : Option Policy → Option ℕ
 dead_letter_of None = None
 dead_letter_of (Some p) = Some p.dead_letter
 
--- a queue of the home's kind, if a consumer forwards at all
+-- queues of the home's kind, if a consumer forwards at all
 abbrev pub ForwardsToKin : Scenario → ℕ → Option Forwarding → Type 0
 ForwardsToKin s home None = Unit {0}
-ForwardsToKin s home (Some f) = AreKin s f.to home
+ForwardsToKin s home (Some f) = All (λ to. AreKin s to home) f.to
 
 -- the same of any actor
 abbrev pub RoleNamesKin : Scenario → ℕ → Role → Type 0
@@ -43,8 +43,8 @@ RoleNamesKin s home (Script calls) = Unit {0}
 RoleNamesKin s home (Producer p) = Unit {0}
 RoleNamesKin s home (Consumer c) = ForwardsToKin s home c.forward
 
--- messages stay among queues of one kind: the dead-letter queue of a queue, the queue to which a task moves and the
--- queue to which a consumer forwards are other queues of the same kind
+-- messages stay among queues of one kind: the dead-letter queue of a queue and the queue to which a task moves are other
+-- queues of the same kind, and each queue to which a consumer forwards is one of that kind
 pub record NamesKin (s : Scenario) : Type 0 where
   pub policies : All (λ x. MayBeOtherKin s x.0 (dead_letter_of x.1.policy)) (enumerate_from 0 s.queues)
   pub forwards : All (λ a. RoleNamesKin s a.home a.role) s.actors

@@ -17,10 +17,10 @@ IsRoleInRange (Script calls) = IsScript calls
 IsRoleInRange (Producer p) = IsProducer p
 IsRoleInRange (Consumer c) = IsConsumer c
 
--- the queue to which a consumer forwards, if there is one, is among the queues
+-- the queues to which a consumer forwards, if it does, are among the queues
 abbrev pub ForwardsWithin : ℕ → Option Forwarding → Type 0
 ForwardsWithin queues None = Unit {0}
-ForwardsWithin queues (Some f) = f.to < queues
+ForwardsWithin queues (Some f) = All (λ to. to < queues) f.to
 
 -- the same of any actor
 abbrev pub RoleWithin : ℕ → Role → Type 0

@@ -16,9 +16,14 @@ abbrev pub moves_from : Scenario → ℕ → List TaskSettings → List Edge
 moves_from s source [] = []
 moves_from s source (t ∷ ts) = map (λ to. edge t.home to t.latency) (goals_from s source t.home t.to) ++ flat_map (task_edges s) ts
 
+-- the ways of some actors, of which so many of the first were before
+abbrev pub forwards_from : ℕ → List ActorSettings → List Edge
+forwards_from before [] = []
+forwards_from before (a ∷ others) = drop before (role_edges a.home a.role) ++ flat_map (λ b. role_edges b.home b.role) others
+
 -- the ways of the queues from this number on, of these actors and of these tasks
-abbrev pub ways_from : Scenario → ℕ → List ActorSettings → List TaskSettings → ℕ → List Edge
-ways_from s queue actors tasks source =
+abbrev pub ways_from : Scenario → ℕ → List ActorSettings → ℕ → List TaskSettings → ℕ → List Edge
+ways_from s queue actors before tasks source =
     flat_map (λ x. policy_edges x.0 x.1.policy) (enumerate_from queue (drop queue s.queues))
-    ++ flat_map (λ a. role_edges a.home a.role) actors
+    ++ forwards_from before actors
     ++ moves_from s source tasks

@@ -9,7 +9,7 @@ use crate::distributions::time;
 use crate::fault::ReadError;
 use crate::key_type::{Integer, OneOf, Seconds, SizedText};
 use crate::lists::{Integers, no_integers};
-use crate::named::KinQueue;
+use crate::named::KinQueues;
 use crate::outages::{outage_keys, outages};
 use crate::outline::Outline;
 use crate::producers::stopping;
@@ -129,7 +129,7 @@ fn known_consumer_keys(version: u64, section: &Section<'_>) -> Result<(), ReadEr
     ])
 }
 
-/// The queue to which a consumer forwards, if it does.
+/// The queues to which a consumer forwards, if it does.
 #[tactic(auto, unfolding(sqs_formats::specs::Actors::forward, sqs_formats::specs::Reading::and_then))]
 fn forward(
     forwards: bool,
@@ -143,7 +143,7 @@ fn forward(
     if !forwards {
         return Ok(None);
     }
-    let to = section.required("forward", &KinQueue { outline, home })?;
+    let to = section.required("forward", &KinQueues { outline, home })?;
     let latency = latency(outline.version(), section)?;
     Ok(Some(Forwarding { to, latency }))
 }

@@ -7,11 +7,12 @@ ghost use Rattle.sim_scenario.specs.Sections.{table_of, key_place};
 
 use crate::fault::ReadError;
 use crate::key_type::KeyType;
+use crate::lists::{ListItem, list_of};
 use crate::names::{is_agent_name, is_queue_name};
 use crate::outline::Outline;
 use crate::section::Section;
 use sim_clock::Refusal;
-use sqs_message::Text;
+use sqs_message::{Listed, Text};
 use toml::Value;
 
 /// A name, if it is well-formed and no name before its place is the same.
@@ -127,6 +128,58 @@ impl KeyType for KinQueue<'_> {
         let outline = self.outline;
         let number = NamedQueue { outline }.read(section, value, key)?;
         of_same_kind(section, key, outline, self.home, number)
+    }
+}
+
+impl ListItem for KinQueue<'_> {
+    type Item = u32;
+
+    ghost use Rattle.sqs_formats.specs.Outline.{kin_named};
+
+    ghost says = { λ k count before. kin_named k.outline.now k.home };
+
+    fn read_item(
+        &self,
+        _count: usize,
+        _before: &[u32],
+        section: &Section<'_>,
+        value: &Value,
+        place: &str,
+    ) -> Result<u32, ReadError> {
+        self.read(section, value, place)
+    }
+}
+
+/// The names of 1 to 10 queues of the same kind as the agent's queue in a list, or one name. Before
+/// version 3 only one name is right.
+#[derive(Drop)]
+pub(crate) struct KinQueues<'o> {
+    pub(crate) outline: &'o Outline,
+    pub(crate) home: u32,
+}
+
+impl KeyType for KinQueues<'_> {
+    type Value = Listed<u32>;
+
+    ghost use Rattle.sqs_formats.specs.Outline.{kins_named};
+
+    ghost says = { λ k. kins_named k.outline.now k.home };
+
+    #[tactic(auto, unfolding(sqs_formats::specs::Outline::kins_named, sqs_formats::specs::Reading::and_then))]
+    fn read(
+        &self,
+        section: &Section<'_>,
+        value: &Value,
+        key: &str,
+    ) -> Result<Listed<u32>, ReadError> {
+        let (outline, home) = (self.outline, self.home);
+        let queue = KinQueue { outline, home };
+        if outline.version() >= 3 && value.is_array() {
+            let queues = list_of(section, value, key, 1, 10, &queue)?;
+            return Ok(Listed::new(queues));
+        }
+        let number = queue.read(section, value, key)?;
+        Ok(Listed::new(vec![in section.alloc; number]?))
     }
 }
 

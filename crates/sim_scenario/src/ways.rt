@@ -1,7 +1,8 @@
 //! The ways of a scenario, and the least time that a transfer takes along one.
-ghost use Rattle.std.specs.Prelude.{◌≡◌, ◌≤◌, ◌+◌, All, IfOk};
+ghost use Rattle.std.specs.Prelude.{◌≡◌, ◌≤◌, ◌<◌, ◌+◌, ◌^◌, All, IfOk, IfSome};
 ghost use Rattle.std.specs.Iterator.{YieldsFirst, item_count};
-ghost use Rattle.sqs_model.specs.Scenario.{edge, edges, least_latency as the_least_latency, leads_to};
+ghost use Rattle.std.specs.List.{slice_get};
+ghost use Rattle.sqs_model.specs.Scenario.{edge, edges, least_latency as the_least_latency, leads_to, role_edges};
 ghost use Rattle.sim_scenario.specs.Ranges.{IsInRange};
 
 use crate::scenario::Scenario;
@@ -19,6 +20,8 @@ struct Ways<'a> {
     /// The number of the next queue.
     queue: usize,
     actors: &'a [ActorSettings],
+    /// How many of the ways of the next actor were before.
+    forward: usize,
     tasks: &'a [TaskSettings],
     /// The first queue to which the next task may still lead, if it has no destination.
     source: usize,
@@ -31,7 +34,7 @@ impl<'a> Model for Ways<'a> {
 
     ghost Value = { List Edge };
 
-    ghost view = { λ w. ways_from w.scenario.now w.queue w.actors.now w.tasks.now w.source };
+    ghost view = { λ w. ways_from w.scenario.now w.queue w.actors.now w.forward w.tasks.now w.source };
 }
 
 /// All ways of a scenario.
@@ -43,6 +46,7 @@ fn ways_of(scenario: &Scenario) -> Ways<'_>
         scenario,
         queue: 0,
         actors: scenario.actors(),
+        forward: 0,
         tasks: scenario.tasks(),
         source: 0,
     }
@@ -54,6 +58,19 @@ fn edge(from: u32, to: u32, latency: Latency) -> Edge
 {
     let least = latency.least;
     Edge { from, to, least }
+}
+
+/// The way of an actor to the queue of an index among those to which it forwards, if there is one.
+fn forward_way(actor: &ActorSettings, index: usize) -> Option<Edge>
+    ensures way { result ≡ slice_get (role_edges actor.now.home actor.now.role) index }
+    ensures within { IfSome result (λ way. index + 1 < 2 ^ 64) }
+{
+    let Role::Consumer(consumer) = &actor.role else {
+        return None;
+    };
+    let forward = consumer.forward.as_ref()?;
+    let to = forward.to.as_slice().get(index)?;
+    Some(edge(actor.home, *to, forward.latency))
 }
 
 /// Whether a redrive policy names a queue.
@@ -82,12 +99,12 @@ impl<'a> Iterator for Ways<'a> {
             }
         }
         while let Some((actor, others)) = self.actors.split_first() {
-            self.actors = others;
-            if let Role::Consumer(consumer) = &actor.role {
-                if let Some(forward) = consumer.forward {
-                    return Some(edge(actor.home, forward.to, forward.latency));
-                }
+            if let Some(way) = forward_way(actor, self.forward) {
+                self.forward += 1;
+                return Some(way);
             }
+            self.actors = others;
+            self.forward = 0;
         }
         while let Some((task, others)) = self.tasks.split_first() {
             if let Some(to) = task.to {

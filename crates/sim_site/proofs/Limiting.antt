@@ -11,8 +11,10 @@ use Rattle.sim_clock.specs.declared.refusal.Refusal.TheVariants as refusals
 use Rattle.sqs_message.specs.declared.message.Message.{Message}
 use Rattle.sqs_redrive.specs.declared.answers.Got.{Got}
 use Rattle.sqs_redrive.specs.declared.transfers.Load.{Load}
+use Rattle.sqs_redrive.specs.declared.transfers.Outbound.{Outbound}
+use Rattle.sqs_message.specs.declared.ids.MessageId.{MessageId}
 use Rattle.sqs_model.specs.Actor.{Actor}
-use Rattle.sqs_model.specs.Acts.{all_came_back, came_back, given, hosts_from, got_row, receive_made, receive_none, receive_some, short_poll}
+use Rattle.sqs_model.specs.Acts.{all_came_back, came_back, forward_made, forwards_made, given, hosts_from, got_row, receive_made, receive_none, receive_some, short_poll}
 use Rattle.sqs_model.specs.Answers.{most_count}
 use Rattle.sqs_model.specs.Available.{available}
 use Rattle.sqs_model.specs.Draw.{Draws, drawn_latency}
@@ -145,6 +147,15 @@ back_one_limited key gots i d c l h =
     let list : drop i gots ≡ g ∷ more = drop-cons gots i d l in
     let first : Effect = came_back key c g.id.number g.left in
     rw list (passes_before first (all_came_back key more) (all_back_up first.core key more first.core (same first.core)) h)
+
+-- a forward among others
+forwards_core : (key : Key) (a : Actor) (id : MessageId) (os : List Outbound) (c : Core) → (forwards_made key a id os c).core ≡ c
+forwards_core key a id [] c = refl
+forwards_core key a id (o ∷ os) c = forwards_core key a id os c
+
+pub forward_limited : (key : Key) (a : Actor) (id : MessageId) (o : Outbound) (os : List Outbound) (c : Core) → PassesCount (forward_made key a id o c) → PassesCount (forwards_made key a id (o ∷ os) c)
+forward_limited key a id o os c h =
+    passes_before (forward_made key a id o c) (forwards_made key a id os) (subst (Grows c) (sym (forwards_core key a id os c)) (same c)) h
 
 -- a task whose transfers or words pass the limit as it sends one on
 pub moves_pass :

@@ -47,7 +47,6 @@ module _ (key : Key) (a : Actor) (c : Core) where
   cancel_done_is task None = refl
   cancel_done_is task (Some t) = cancelled_done task t (task_cancelled t.move)
 
-  pub serve_done_is : (id : MessageId) (r : Receipt) (failed : Bool) (forward : Option Outbound) → IsDone (serve_made key a c id r failed forward)
-  serve_done_is id r true forward = refl
-  serve_done_is id r false None = refl
-  serve_done_is id r false (Some o) = refl
+  pub serve_done_is : (id : MessageId) (r : Receipt) (failed : Bool) (forwards : List Outbound) → IsDone (serve_made key a c id r failed forwards)
+  serve_done_is id r true forwards = refl
+  serve_done_is id r false forwards = refl

@@ -13,7 +13,7 @@ use Rattle.sim_clock.specs.Places.{Stands}
 use Rattle.sim_site.proofs.Ordered.{its_number}
 use Rattle.sqs_model.specs.Site.{is_actor}
 use Rattle.sqs_model.proofs.Counts.{find_changed, find_picked}
-use Rattle.sim_actor.specs.Lives.{FollowsUp, IsFramed, Meets, act_following}
+use Rattle.sim_actor.specs.Lives.{Decides, FollowsUp, IsFramed, act_following}
 use Rattle.sim_actor.specs.declared.replies.FollowUp.{FollowUp}
 use Rattle.sim_site.specs.Kept.{HasShortWaits, WaitsShortly}
 use Rattle.sim_site.specs.Turns.{Polled, Turned}
@@ -70,7 +70,7 @@ module _ (n : ℕ) (xs : List Actor) (i : ℕ) (s : Stands (is_actor n) xs i) (a
         there = rw (set_at b) (find_changed (is_actor n) (λ _. b) xs a found_at (its_number n b number));
       }
 
-  pub turned_if : (now : ℕ) (told : Answer) (r : Result Act Refusal) (b : Actor) → Meets r a b (next a now told) → IsFramed a b → IfOk r (λ act. Turned n now told act xs (set xs i b))
+  pub turned_if : (now : ℕ) (told : Answer) (r : Result Act Refusal) (b : Actor) → Decides r b (next a now told) → IsFramed a b → IfOk r (λ act. Turned n now told act xs (set xs i b))
   turned_if now told (Ok act) b d f = turned_at now told act b d f
   turned_if now told (Err refusal) b d f = tt
 
@@ -80,7 +80,7 @@ module _ (n : ℕ) (xs : List Actor) (i : ℕ) (s : Stands (is_actor n) xs i) (a
   followed_if now told (Ok f) b d framed = turned_at now told (act_following f) b d framed
   followed_if now told (Err refusal) b d framed = tt
 
-  pub waits_if : (now : ℕ) (told : Answer) (r : Result Act Refusal) (b : Actor) → Meets r a b (next a now told) → All (λ (x : ActorSettings). HasShortWaits x.role) (map (λ (x : Actor). x.settings) xs) → IfOk r WaitsShortly
+  pub waits_if : (now : ℕ) (told : Answer) (r : Result Act Refusal) (b : Actor) → Decides r b (next a now told) → All (λ (x : ActorSettings). HasShortWaits x.role) (map (λ (x : Actor). x.settings) xs) → IfOk r WaitsShortly
   waits_if now told (Ok act) b d h =
       subst (λ (x : Act × Actor). WaitsShortly x.0) d (next_waits a now told (all_found (is_actor n) (λ (x : Actor). x.settings) (λ (x : ActorSettings). HasShortWaits x.role) xs a h found_at))
   waits_if now told (Err refusal) b d h = tt

@@ -33,7 +33,7 @@ WaitsShortly (acts.Change receipt timeout) = Unit {0}
 WaitsShortly (acts.Prolong receipt timeout) = Unit {0}
 WaitsShortly (acts.Start task) = Unit {0}
 WaitsShortly (acts.Cancel task) = Unit {0}
-WaitsShortly (acts.Serve id receipt failed forward) = Unit {0}
+WaitsShortly (acts.Serve id receipt failed forwards) = Unit {0}
 WaitsShortly acts.Nothing = Unit {0}
 
 -- the same of a script's call

@@ -29,7 +29,7 @@ use Rattle.sqs_formats.specs.Groups.{groups, groups_key}
 use Rattle.sqs_formats.specs.Names.{is_agent_name, is_script_name}
 use Rattle.sqs_formats.specs.Copies.{copy_names}
 use Rattle.sqs_formats.specs.Outages.{outage_keys, outages}
-use Rattle.sqs_formats.specs.Outline.{Outline, actor_place, first_task, is_fresh, name_of, queue_named, kin_named, kind_at, queue_text}
+use Rattle.sqs_formats.specs.Outline.{Outline, actor_place, first_task, is_fresh, name_of, queue_named, kins_named, kind_at, queue_text}
 use Rattle.sqs_formats.specs.Queues.{latency_keys, latency}
 use Rattle.sqs_formats.specs.Script.{script}
 use Rattle.sqs_message.specs.Bodies.{filled}
@@ -177,11 +177,11 @@ abbrev pub forward_keys : ℕ → Bool → List (List ℕ)
 forward_keys version true = latency_keys version
 forward_keys version false = []
 
--- a consumer's forward
+-- the queues to which a consumer forwards
 unfoldable pub forward : Bool → Outline → ℕ → Table → Says (Option Forwarding)
 forward false o home t = Ok None
 forward true o home t = do
-  to ← required (kin_named o home) t (codes "forward")
+  to ← required (kins_named o home) t (codes "forward")
   within ← latency o.version t
   Ok (Some (record { to = to; latency = within }))
 

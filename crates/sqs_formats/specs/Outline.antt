@@ -1,11 +1,13 @@
 -- What every part of a scenario's text may refer to: all names, and who has them.
-use Rattle.std.specs.Prelude.{ℕ, ◌+◌, ◌-◌, nat_le, Bool, true, not, ◌==◌, codes, if◌then◌else◌, List, [], ◌++◌, length, map, position, take, Option, Some, None, Ok, get_or, ok_or, unwrap_or}
+use Rattle.std.specs.Prelude.{ℕ, ◌+◌, ◌-◌, ◌&&◌, ◌∷◌, nat_le, Bool, false, true, not, ◌==◌, codes, if◌then◌else◌, List, [], ◌++◌, length, map, position, take, Option, Some, None, Ok, get_or, ok_or, unwrap_or}
 use Rattle.std.specs.List.{sum, sum_by}
 use Rattle.std.specs.Str.{bytes_eq}
-use Rattle.toml.specs.Data.{Data}
+use Rattle.std.specs.Option.{is_some}
+use Rattle.toml.specs.Data.{Data, as_array}
 use Rattle.sim_clock.specs.declared.refusal.Refusal.TheVariants.{BadName, NameTwice, UnknownQueue, KindMismatch}
 use Rattle.sqs_formats.specs.Reading.{needs, ◌>>=◌}
 use Rattle.sqs_formats.specs.Keys.{Says, KeyType, fault_at, is_among, text, text_in}
+use Rattle.sqs_formats.specs.Lists.{list_of}
 use Rattle.sqs_formats.specs.Names.{is_fifo}
 use Rattle.sqs_formats.specs.Copies.{copies_asked, copies_within, names_taken}
 
@@ -103,7 +105,18 @@ same_kind o home place n = needs (if kind_at o n then kind_at o home else not (k
 unfoldable pub kin_named : Outline → ℕ → KeyType ℕ
 kin_named o home place d = queue_named o place d >>= same_kind o home place
 
--- and of another queue than the home
+-- the names of 1 to 10 of them in a list, or one without a list
+abbrev pub kins_by : Bool → Outline → ℕ → KeyType (List ℕ)
+kins_by true o home place d = list_of 1 10 (λ count before. kin_named o home) place d
+kins_by false o home place d = do
+  n ← kin_named o home place d
+  Ok (n ∷ [])
+
+-- a key whose value is one of them, or from version 3 on a list
+unfoldable pub kins_named : Outline → ℕ → KeyType (List ℕ)
+kins_named o home place d = kins_by (nat_le 3 o.version && is_some (as_array d)) o home place d
+
+-- the name of another queue of the home's kind than the home
 unfoldable pub other_kin_named : Outline → ℕ → KeyType ℕ
 other_kin_named o home place d = do
   n ← queue_named o place d

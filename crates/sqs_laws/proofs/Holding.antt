@@ -1,5 +1,5 @@
 -- An actor holds only messages that it was told of, and serves no other.
-use Rattle.std.specs.Prelude.{Bool, List, None, Option, Some, [], drop, false, length, min, nat_le, nat_lt, true, ℕ, ◌+◌, ◌++◌, ◌<◌, ◌∷◌, ◌≡◌, ◌≤◌}
+use Rattle.std.specs.Prelude.{Bool, List, None, Option, Some, [], drop, false, length, nat_lt, true, ℕ, ◌+◌, ◌++◌, ◌<◌, ◌∷◌, ◌≡◌, ◌≤◌}
 use Rattle.std.proofs.Common.{arith, refl}
 use Rattle.sqs_message.specs.declared.calls.Call.{Call}
 use Rattle.sqs_message.specs.declared.calls.Call.TheVariants as calls
@@ -16,9 +16,10 @@ use Rattle.sqs_model.specs.declared.agents.Role.{Role}
 use Rattle.sqs_model.specs.declared.agents.Role.TheVariants.{Consumer, Producer, Script}
 use Rattle.sqs_model.specs.declared.agents.Serving.{Serving}
 use Rattle.sqs_model.specs.declared.agents.Serving.TheVariants.{Each, Once}
-use Rattle.sqs_model.specs.Actor.{Actor, Asked, Beat, Ended, Failed, Gathered, LastAct, Served, act_of, after_failure, begins_by, begins_next, consumer_told, consumer_wake, ends_by, ends_service, ends_well, ends_whole, gathers_on, goes_on, got_more, is_gathered, is_gathering, woken, has_come, has_failed, next, next_as, outcome, producer_sent, producer_wake, rest_after, rests, script_wake, served_all, serves, serves_on, service_of, serving, settles}
+use Rattle.sqs_model.specs.Actor.{Actor, Asked, Beat, Ended, Failed, Gathered, LastAct, Served, act_of, after_failure, begins_by, begins_next, consumer_told, consumer_wake, ends_by, ends_service, ends_well, ends_whole, gathers_on, goes_on, got_more, is_gathered, is_gathering, woken, has_come, has_failed, next, next_as, outcome, producer_sent, producer_wake, rest_after, rests, script_wake, served_all, serves, serves_on, service_of, serving, settles, has_forwarded, sent_one}
 use Rattle.sqs_model.specs.Draw.{Draws, drawn_time}
 use Rattle.sqs_model.proofs.Branches.{either}
+use Rattle.sqs_redrive.specs.declared.settings.Latency.{Latency}
 use Rattle.sqs_laws.proofs.Giving.{AreKnown, IsKnown}
 
 module _ (site arrivals : ℕ) where
@@ -30,7 +31,7 @@ module _ (site arrivals : ℕ) where
 
   -- an act that serves no other message
   abbrev pub ServesKnown : Act → Type 0
-  ServesKnown (acts.Serve id receipt failed forward) = (id.site ≡ site) × (id.number < arrivals)
+  ServesKnown (acts.Serve id receipt failed forwards) = (id.site ≡ site) × (id.number < arrivals)
   ServesKnown act = Unit {0}
 
   abbrev pub HearsOfKnown : Answer → Type 0
@@ -71,9 +72,13 @@ module _ (site arrivals : ℕ) where
     sent_acts : (a : Actor) (p : ProducerSettings) → IsInformed a → Acts (producer_sent a p now)
     sent_acts a p h = either Acts (nat_lt a.wakes p.count) _ _ (record { informed = with_lists _ h.held h.done h.failed; serves = tt }) (idles a h)
 
+    forwarded_informed : (l : Latency) (tos : List ℕ) (a : Actor) → IsInformed a → IsInformed (has_forwarded l tos a)
+    forwarded_informed l [] a h = h
+    forwarded_informed l (to ∷ tos) a h = forwarded_informed l tos (sent_one l a) (with_lists _ h.held h.done h.failed)
+
     serves_acts : (a : Actor) (g : Got) (f : Option Forwarding) → IsInformed a → IsKnown site arrivals g → Acts (serves a now g f)
     serves_acts a g None h k = record { informed = h; serves = (k.here, k.old) }
-    serves_acts a g (Some f) h k = record { informed = with_lists _ h.held h.done h.failed; serves = (k.here, k.old) }
+    serves_acts a g (Some f) h k = record { informed = forwarded_informed f.latency f.to a h; serves = (k.here, k.old) }
 
     settles_acts : (a : Actor) (c : ConsumerSettings) (g : Got) (gs : List Got) → IsInformed a → IsKnown site arrivals g → AreKnown site arrivals gs → Acts (settles a c now g gs)
     settles_acts a c g gs h k l = serves_acts (record a { done = gs; last_act = Served g.receipt }) g c.forward (with_lists _ h.held l h.failed) k

@@ -32,7 +32,7 @@ use Rattle.sqs_redrive.specs.declared.transfers.Load.{Load}
 use Rattle.sqs_redrive.specs.declared.transfers.Load.TheVariants.{Forward, Move as Moves, Redrive}
 use Rattle.sqs_redrive.specs.declared.transfers.Outbound.{Outbound}
 use Rattle.sqs_model.specs.Accounts.{is_deleted, is_expired, origin_in}
-use Rattle.sqs_model.specs.Acts.{change_answered, change_made, change_row, came_back, delete_done, delete_made, send_made, sends, serve_made}
+use Rattle.sqs_model.specs.Acts.{change_answered, change_made, change_row, came_back, delete_done, delete_made, forward_made, forwards_made, send_made, sends, serve_made}
 use Rattle.sqs_model.specs.Actor.{Actor}
 use Rattle.sqs_model.specs.Calls.{change, deduplication_id, delay_of, delete, in_flight_until, is_bad_delay, living, living_entries, new_message, returned, scope_of, send_unless, send_with, with_entry, with_message}
 use Rattle.sqs_model.specs.Queue.{Entry, Queue, has_number, id_of, is_in_flight, is_visible, numbered, same_text, taken_out, with_change, with_records}
@@ -122,21 +122,27 @@ module _ (key : Key) where
   one_row c d r k s a y h = record { chain = one_move key c.queue r d.queue (record { at_key = k; at_site = s; asked = y; does = h }); actors = a }
 
   -- services
-  pub serve_chain : (a : Actor) (c : Core) (id : MessageId) (r : Receipt) (failed : Bool) (o : Option Outbound) → id.site ≡ c.queue.site → id.number < c.queue.arrivals → IsChain c (serve_made key a c id r failed o).effect
-  serve_chain a c id r true o e l =
-      one_row c c _ refl refl refl tt (stays (named_stays c.queue _ id.number (ap (λ s. Some (record { site = s; number = id.number })) e) (tells _ false false false false false refl refl refl refl refl) l (λ h. cc) (λ h. cc)))
-  serve_chain a c id r false None e l = record { chain = refl; actors = refl }
-  serve_chain a c id r false (Some o) e l =
+  forwards_chain : (a : Actor) (c : Core) (id : MessageId) (os : List Outbound) → id.site ≡ c.queue.site → id.number < c.queue.arrivals → IsChain c (forwards_made key a id os c)
+  forwards_chain a c id [] e l = record { chain = refl; actors = refl }
+  forwards_chain a c id (o ∷ os) e l =
+      let one : Chain key c.queue (forward_made key a id o c).rows c.queue =
+      one_move key c.queue _ c.queue
+          (record {
+            at_key = refl;
+            at_site = refl;
+            asked = tt;
+            does = stays (named_stays c.queue _ id.number (ap (λ s. Some (record { site = s; number = id.number })) e) (tells _ false false false false false refl refl refl refl refl) l (λ h. cc) (λ h. cc));
+          }) in
+      let rest = forwards_chain a c id os e l in
       record {
-        chain = one_move key c.queue _ c.queue
-            (record {
-              at_key = refl;
-              at_site = refl;
-              asked = tt;
-              does = stays (named_stays c.queue _ id.number (ap (λ s. Some (record { site = s; number = id.number })) e) (tells _ false false false false false refl refl refl refl refl) l (λ h. cc) (λ h. cc));
-            });
-        actors = refl;
+        chain = chain_append key (forward_made key a id o c).rows (forwards_made key a id os c).rows c.queue c.queue (forwards_made key a id os c).core.queue one rest.chain;
+        actors = rest.actors;
       }
+
+  pub serve_chain : (a : Actor) (c : Core) (id : MessageId) (r : Receipt) (failed : Bool) (os : List Outbound) → id.site ≡ c.queue.site → id.number < c.queue.arrivals → IsChain c (serve_made key a c id r failed os).effect
+  serve_chain a c id r true os e l =
+      one_row c c _ refl refl refl tt (stays (named_stays c.queue _ id.number (ap (λ s. Some (record { site = s; number = id.number })) e) (tells _ false false false false false refl refl refl refl refl) l (λ h. cc) (λ h. cc)))
+  serve_chain a c id r false os e l = forwards_chain a c id os e l
 
   -- sends
   abbrev IsSent : Actor → Core → List ℕ → Result Sent Refusal × Queue → Type 0

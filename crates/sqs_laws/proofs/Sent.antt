@@ -23,7 +23,7 @@ use Rattle.sqs_redrive.specs.declared.settings.Policy.{Policy}
 use Rattle.sqs_redrive.specs.declared.transfers.Load.{Load}
 use Rattle.sqs_redrive.specs.declared.transfers.Outbound.{Outbound}
 use Rattle.sqs_redrive.specs.MoveTasks.{task_stepped}
-use Rattle.sqs_model.specs.Acts.{all_came_back, came_back, change_answered, change_made, change_row, delete_done, delete_made, given, got_row, redrive_by, send_made, sends, serve_made}
+use Rattle.sqs_model.specs.Acts.{all_came_back, came_back, change_answered, change_made, change_row, delete_done, delete_made, forward_made, forwards_made, given, got_row, redrive_by, send_made, sends, serve_made}
 use Rattle.sqs_model.specs.Actor.{Actor}
 use Rattle.sqs_model.specs.Arrive.{arrived, expired}
 use Rattle.sqs_model.specs.Calls.{change, delete}
@@ -150,10 +150,14 @@ module _ (key : Key) (f g : Row → ℕ) (h : Outbound → ℕ) (plain : (r : Ro
   send_weighs a c body (Ok (Repeat id), q) = one_row (with_queue c q) _ (record { stays = refl; away = refl })
   send_weighs a c body (Err e, q) = one_row (with_queue c q) _ (record { stays = refl; away = refl })
 
-  serve_weighs : (a : Actor) (c : Core) (id : MessageId) (r : Receipt) (failed : Bool) (o : Option Outbound) → Weighs 0 (serve_made key a c id r failed o).effect
-  serve_weighs a c id r true o = one_row c _ (record { stays = refl; away = refl })
-  serve_weighs a c id r false None = nothing_weighs c
-  serve_weighs a c id r false (Some o) = one_sent c _ o (record { at_key = refl; to = refl; kind = refl }) refl
+  forwards_weigh : (a : Actor) (id : MessageId) (os : List Outbound) (c : Core) → Weighs 0 (forwards_made key a id os c)
+  forwards_weigh a id [] c = nothing_weighs c
+  forwards_weigh a id (o ∷ os) c =
+      both 0 (forward_made key a id o c) (forwards_made key a id os) (one_sent c _ o (record { at_key = refl; to = refl; kind = refl }) refl) (forwards_weigh a id os c)
+
+  serve_weighs : (a : Actor) (c : Core) (id : MessageId) (r : Receipt) (failed : Bool) (os : List Outbound) → Weighs 0 (serve_made key a c id r failed os).effect
+  serve_weighs a c id r true os = one_row c _ (record { stays = refl; away = refl })
+  serve_weighs a c id r false os = forwards_weigh a id os c
 
   -- at rest so much arrived as is expected of it: nothing
   from_zero : (p : ℕ) (e : Effect) → p ≡ 0 → Weighs 0 e → Weighs p e

@@ -1,5 +1,5 @@
 -- What an actor does next leaves it sound, makes it wake later or as before, and sends only what arrives later.
-use Rattle.std.specs.Prelude.{Bool, List, None, Option, Some, [], drop, if◌then◌else◌, length, max, min, nat_lt, suc, zero, ℕ, ◌++◌, ◌+◌, ◌<◌, ◌∷◌, ◌≡◌, ◌≤◌, ◌⊎◌}
+use Rattle.std.specs.Prelude.{Bool, List, None, Option, Some, [], drop, if◌then◌else◌, length, max, nat_lt, suc, zero, ℕ, ◌++◌, ◌+◌, ◌<◌, ◌∷◌, ◌≡◌, ◌≤◌, ◌⊎◌}
 use Rattle.std.proofs.Common.{add-one, ap, arith, inl, inr, refl, subst, sym, ◌∙◌}
 use Rattle.sqs_message.specs.declared.calls.ScriptCall.{ScriptCall}
 use Rattle.sqs_model.specs.declared.acts.Act.{Act}
@@ -43,9 +43,8 @@ drop_next : (k : ℕ) (xs : List ScriptCall) (c : ScriptCall) (cs : List ScriptC
 drop_next k xs c cs h = rw add-one (drop_suc k xs c cs h)
 
 -- whether a transfer, if any, arrives later
-abbrev pub IsLater : ℕ → Option Outbound → Type 0
-IsLater now None = Unit {0}
-IsLater now (Some o) = now < o.at
+abbrev pub IsLater : ℕ → Outbound → Type 0
+IsLater now o = now < o.at
 
 -- whether what an act sends arrives later
 abbrev pub SendsLater : ℕ → Act → Type 0
@@ -144,7 +143,7 @@ module _ (now : ℕ) (w : Weight now) where
         settings = x.stays.settings;
         wakes = tt;
         wake = omega (arith, gone_at_most gone a g);
-        sends = service_sends now (woken a) c.wait (IsLater now) tt c.forward _ (λ f o is by. forward_later f o (subst IsSoundForward is s) by) x.act;
+        sends = service_sends now (woken a) c.wait (IsLater now) c.forward _ (λ f o is by. forward_later f o (subst IsSoundForward is s) by) x.act;
       }
     where
       forward_later : (f : Forwarding) (o : Outbound) → IsSoundForward (Some f) → IsForwardBy now (woken a) f o → now < o.at

@@ -1,7 +1,7 @@
 -- Laws of a handling by the calls at its site, and the one walk over the definitions of a handling. A new act, call or class of
 -- events has its case here, and a law that is an instance of the records below needs none of its own.
 use Rattle.std.specs.List.{list_any}
-use Rattle.std.specs.Prelude.{Bool, Err, List, None, Ok, Option, Result, Some, [], false, find, if◌then◌else◌, suc, true, unwrap_or, zero, ℕ, ◌-◌, ◌/◌, ◌+◌, ◌==◌, ◌∷◌, ◌≡◌}
+use Rattle.std.specs.Prelude.{Bool, Err, List, None, Ok, Option, Result, Some, [], false, find, suc, true, unwrap_or, zero, ℕ, ◌-◌, ◌/◌, ◌+◌, ◌==◌, ◌∷◌, ◌≡◌}
 use Rattle.std.proofs.Common.{refl}
 use Rattle.sim_clock.specs.declared.key.Class.{Class}
 use Rattle.sim_clock.specs.declared.key.Class.TheVariants as classes
@@ -40,7 +40,7 @@ use Rattle.sqs_model.specs.Queue.{Queue}
 use Rattle.sqs_model.specs.Receive.{give_most, receive}
 use Rattle.sqs_model.specs.Return.{released}
 use Rattle.sqs_model.specs.Site.{Core, Effect, Poll, Site, actor_numbered, and_then, has_key, no_effect, number_of, says, task_numbered, with_actor, with_task}
-use Rattle.sqs_model.specs.Step.{Handled, arrival_done, ends_at, handle_arrival, handle_class, handle_expiry, handle_sample, handle_step, handled, handled_when, is_arrival, release_done, with_polls}
+use Rattle.sqs_model.specs.Step.{Handled, arrival_done, ends_at, handle_arrival, handle_class, handle_expiry, handle_step, handled, handled_when, is_arrival, release_done, with_polls}
 use Rattle.sqs_model.specs.Task.{Task}
 use Rattle.sqs_model.proofs.Answered.{receive_by}
 use Rattle.sqs_model.proofs.Branches.{either, either_by}
@@ -122,7 +122,7 @@ pub record CallLaw (key : Key) : Type 1 where
       (p : Past) (n : ℕ) (c : Core) (a : Actor) (w : Answer) → actor_numbered n c ≡ Some a → IsTold Hears c w → At p c
       → At p (with_actor c (next a key.at w).1) × Stands c.queue (with_actor c (next a key.at w).1).actors (next a key.at w).1 × May (with_actor c (next a key.at w).1) (next a key.at w).0
   pub polls : (p : Past) (a : Actor) (c : Core) (max wait : ℕ) (timeout : Option ℕ) → (wait == 0) ≡ false → Stands c.queue c.actors a → At p c → At p (with_poll key a c max wait timeout)
-  pub serves : (p : Past) (a : Actor) (c : Core) (id : MessageId) (r : Receipt) (failed : Bool) (o : Option Outbound) → May c (acts.Serve id r failed o) → At p c → Goes p (serve_made key a c id r failed o).effect
+  pub serves : (p : Past) (a : Actor) (c : Core) (id : MessageId) (r : Receipt) (failed : Bool) (forwards : List Outbound) → May c (acts.Serve id r failed forwards) → At p c → Goes p (serve_made key a c id r failed forwards).effect
 
 module _ (key : Key) (law : CallLaw key) where
   open law use {Past, At, Goes, Hears, after, done, joins, quiet, nothing, Stands, May}
@@ -205,10 +205,9 @@ module _ (key : Key) (law : CallLaw key) where
   deletes_goes p a c text None g = plainly p _ tt g
   deletes_goes p a c text (Some r) g = plainly p _ tt g
 
-  serves_goes : (p : Past) (a : Actor) (c : Core) (id : MessageId) (r : Receipt) (failed : Bool) (o : Option Outbound) → Goes p (serve_made key a c id r failed o).effect → Makes p (serve_made key a c id r failed o)
-  serves_goes p a c id r true o g = plainly p _ tt g
-  serves_goes p a c id r false None g = plainly p _ tt g
-  serves_goes p a c id r false (Some o) g = plainly p _ tt g
+  serves_goes : (p : Past) (a : Actor) (c : Core) (id : MessageId) (r : Receipt) (failed : Bool) (os : List Outbound) → Goes p (serve_made key a c id r failed os).effect → Makes p (serve_made key a c id r failed os)
+  serves_goes p a c id r true os g = plainly p _ tt g
+  serves_goes p a c id r false os g = plainly p _ tt g
 
   pub act_goes : (p : Past) (a : Actor) (c : Core) (x : Act) → Stands c.queue c.actors a → May c x → At p c → Makes p (act_made key a c x)
   unfolding act_made
@@ -221,7 +220,7 @@ module _ (key : Key) (law : CallLaw key) where
       changes_goes p a c text seconds (read_receipt text) (law.changes p a c text seconds h)
   act_goes p a c (acts.Start task) s m h = start_goes p a c task (task_numbered task c) refl h
   act_goes p a c (acts.Cancel task) s m h = cancel_goes p a c task (task_numbered task c) refl h
-  act_goes p a c (acts.Serve id r failed forward) s m h = serves_goes p a c id r failed forward (law.serves p a c id r failed forward m h)
+  act_goes p a c (acts.Serve id r failed forwards) s m h = serves_goes p a c id r failed forwards (law.serves p a c id r failed forwards m h)
   act_goes p a c acts.Nothing s m h = plainly p _ tt (nothing p c h)
 
   -- turns

@@ -1,4 +1,4 @@
--- What an actor decides: it keeps its number and settings, its counts only grow, and it sends at most the forward of its role.
+-- What an actor decides: it keeps its number and settings, its counts only grow, and it sends at most the forwards of its role.
 use Rattle.std.specs.Prelude.{List, None, Option, Some, [], drop, length, nat_lt, ℕ, ◌++◌, ◌+◌, ◌∷◌, ◌≡◌, ◌≤◌}
 use Rattle.std.proofs.Common.{arith, refl, subst, sym}
 use Rattle.sqs_message.specs.declared.calls.ScriptCall.{ScriptCall}
@@ -22,7 +22,7 @@ use Rattle.sqs_model.proofs.ConsumerWakes.{IsForwardBy, MayForwardBy, consumer_w
 use Rattle.sqs_model.proofs.Effects.{backoff_words, group_words, service_words, time_words}
 use Rattle.sqs_model.proofs.Sending.{Sends, call_sends}
 
--- where an actor of a role forwards to
+-- where an actor of a role forwards to, if it does
 abbrev pub forward_of : Role → Option Forwarding
 forward_of (Script script) = None
 forward_of (Producer p) = None
@@ -60,8 +60,8 @@ module _ (now : ℕ) (a : Actor) where
       (rests None _ refl refl refl (omega arith) refl (omega (arith, time_words p.gap a.draws)) _ tt) (none None)
 
   module _ (c : ConsumerSettings) where
-    same_forward : (f : Forwarding) (o : Outbound) → c.forward ≡ Some f → IsForwardBy now (woken a) f o → MayForwardBy now a c.forward (Some o)
-    same_forward f o is by = subst (λ (x : Option Forwarding). MayForwardBy now a x (Some o)) (sym is) (record { sender = by.sender; from = by.from; to = by.to; late = by.late; load = by.load })
+    same_forward : (f : Forwarding) (o : Outbound) → c.forward ≡ Some f → IsForwardBy now (woken a) f o → MayForwardBy now a c.forward o
+    same_forward f o is by = subst (λ (x : Option Forwarding). MayForwardBy now a x o) (sym is) (record { sender = by.sender; from = by.from; to = by.to; late = by.late; load = by.load })
 
     woke_decides : (gs : List Got) → Decides now a c.forward (consumer_wake (woken a) c now gs)
     woke_decides gs =
@@ -73,7 +73,7 @@ module _ (now : ℕ) (a : Actor) where
           wakes = omega (arith, x.stays.wakes);
           sent = x.stays.sent;
           words = x.stays.words;
-          sends = service_sends now (woken a) c.wait (MayForwardBy now a c.forward) tt c.forward _ same_forward x.act;
+          sends = service_sends now (woken a) c.wait (MayForwardBy now a c.forward) c.forward _ same_forward x.act;
         }
 
     begins_decides :

@@ -29,9 +29,9 @@ use Rattle.sqs_model.proofs.Walk.{Changes, Gives, HandlingLaw, Leaves, TurnLaw, 
 pub record SendLaw (now : ℕ) (queue : QueueLaw now) (May : Outbound → Type 0) : Type 1 where
   pub redriven : (o : Outbound) → now ≤ o.at → queue.Out o.load → May o
   pub moved : (o : Outbound) → IsMove o.load → May o
-  pub Sent : Option Outbound → Type 0
+  pub Sent : Outbound → Type 0
   pub sends : (a : Actor) (w : Answer) → Sends Sent (next a now w).0
-  pub forwarded : (o : Outbound) → Sent (Some o) → May o
+  pub forwarded : (o : Outbound) → Sent o → May o
 
 -- what holds of a site and of the loads that are still to be told
 module _ (now : ℕ) (queue : QueueLaw now) (P : Core → Type 0) where

@@ -30,7 +30,7 @@ use Rattle.sqs_model.specs.Accounts.{carries}
 use Rattle.sqs_model.specs.Scenario.{LeadsWithin, MayBeWithin}
 use Rattle.sqs_model.specs.Actor.{Actor}
 use Rattle.sqs_redrive.specs.declared.settings.TaskStatus.TheVariants.{Cancelled}
-use Rattle.sqs_model.specs.Acts.{forward_row, delete_done, redrive_by, send_made}
+use Rattle.sqs_model.specs.Acts.{forward_made, delete_done, redrive_by, send_made}
 use Rattle.sqs_model.specs.Arrive.{expired_found}
 use Rattle.sqs_model.specs.Available.{all_available, all_hosts}
 use Rattle.sqs_model.specs.Draw.{drawn_latency}
@@ -43,7 +43,7 @@ use Rattle.sqs_model.specs.Task.{Task, take_each, take_movable}
 use Rattle.sqs_model.proofs.Balance.{Holds, holds_as, holds_idle}
 use Rattle.sqs_model.proofs.Chosen.{first_apart, first_stand}
 use Rattle.sqs_model.proofs.Counts.{all_changed, find_all, total, total_append}
-use Rattle.sqs_model.proofs.Forwards.{MayForward, next_forwards}
+use Rattle.sqs_model.proofs.Forwards.{CarriesForward, next_forwards}
 use Rattle.sqs_model.proofs.Sending.{IsForward}
 use Rattle.sqs_model.proofs.Ledger.{bit, marks}
 use Rattle.sqs_model.proofs.Walk.{ArePlain, Changes as AfterChange, Gives as AfterGiving, HandlingLaw, TurnLaw, arrival_goes, class_goes, leaves_by, lefts as all_left, polled}
@@ -150,9 +150,9 @@ module _ (o : Origin) (top : ℕ) (base : List Row) where
     task_leads : (rows : List Row) (elsewhere : ℕ) (c : Core) (n : ℕ) (t : Task) → task_numbered n c ≡ Some t → At rows elsewhere c → Leads o top t
     task_leads rows elsewhere c n t e h = find_all (is_task n) (Leads o top) c.tasks t h.1 e
 
-    forward_goes : (rows : List Row) (elsewhere : ℕ) (a : Actor) (c : Core) (id : MessageId) (x : Outbound) → IsForward x.load → At rows elsewhere c → Goes rows elsewhere (record { core = c; rows = forward_row key a c id x.to ∷ []; sent = x ∷ [] })
+    forward_goes : (rows : List Row) (elsewhere : ℕ) (a : Actor) (c : Core) (id : MessageId) (x : Outbound) → IsForward x.load → At rows elsewhere c → Goes rows elsewhere (forward_made key a id x c)
     forward_goes rows elsewhere a c id x f h =
-        let e : Effect = record { core = c; rows = forward_row key a c id x.to ∷ []; sent = x ∷ [] } in
+        let e : Effect = forward_made key a id x c in
         let none = forward_bound o top x.to x.load f in
         let zero_bits : carried o x.load ≡ 0 = ap bit none.0 in
         record {
@@ -343,7 +343,7 @@ module _ (o : Origin) (top : ℕ) (base : List Row) where
           starts = λ p c n t e h. task_on p c n t (record t { move = task_started t.move key.at }) e refl h;
           cancels = λ p c n t e h. task_on p c n t (record t { move = record t.move { status = Cancelled } }) e refl h;
           Stands = λ _ _. Unit {0};
-          Sent = MayForward;
+          Sent = CarriesForward;
           turns = λ p n c a w e h. (h, tt, next_forwards a key.at w);
           polls = λ p a c max wait timeout e s h. h;
           forwards = λ p a c id x s h. goes_on p _ (forward_goes p.0 p.1 a c id x s (plainly p c h));

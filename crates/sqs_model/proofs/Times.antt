@@ -17,7 +17,7 @@ use Rattle.sqs_model.specs.Queue.{has_number}
 use Rattle.sqs_model.specs.Site.{Site, has_key}
 use Rattle.sqs_model.specs.Step.{handled, handled_when, is_arrival}
 use Rattle.sqs_model.proofs.Counts.{all_changed, all_without, find_all, find_picked}
-use Rattle.sqs_model.proofs.Forwards.{MayForward, next_forwards}
+use Rattle.sqs_model.proofs.Forwards.{CarriesForward, next_forwards}
 use Rattle.sqs_model.proofs.QueueLaws.{SendLaw, handles, turns}
 use Rattle.sqs_model.proofs.QueueWalk.{IsMove, QueueLaw}
 use Rattle.sqs_model.proofs.Sending.{IsForward}
@@ -75,7 +75,7 @@ module _ (now : ℕ) where
       record {
         redriven = λ o l k. later now o.at o.load l k;
         moved = λ o k. move_timely o.at o.load k;
-        Sent = MayForward;
+        Sent = CarriesForward;
         sends = λ a w. next_forwards a now w;
         forwarded = λ o k. forward_timely o.at o.load k;
       }

@@ -32,7 +32,7 @@ use Rattle.std.specs.List.{list_any}
 use Rattle.sim_clock.specs.declared.refusal.Refusal.TheVariants as refusals
 use Rattle.sqs_message.specs.declared.row.RowAnswer.TheVariants as answers
 use Rattle.sqs_message.specs.declared.row.RowKind.TheVariants as kinds
-use Rattle.sqs_model.specs.Acts.{Made, act_made, made, runs, task_row, all_came_back, came_back, cancel_done, cancel_made, change_answered, change_made, delete_done, delete_made, given, long_poll, receive_as, receive_made, receive_none, receive_some, redrive_by, send_made, serve_made, short_poll, start_made}
+use Rattle.sqs_model.specs.Acts.{Made, act_made, made, runs, task_row, all_came_back, came_back, cancel_done, cancel_made, change_answered, change_made, delete_done, delete_made, forwards_made, given, long_poll, receive_as, receive_made, receive_none, receive_some, redrive_by, send_made, serve_made, short_poll, start_made}
 use Rattle.sqs_model.specs.Draw.{Draws}
 use Rattle.sqs_model.specs.Polls.{acts_found, acts_most, acts_next, continued}
 use Rattle.sqs_model.specs.Queue.{Queue}
@@ -144,10 +144,13 @@ cancel_leaves : (key : Key) (a : Actor) (c : Core) (task : ℕ) (o : Option Task
 cancel_leaves key a c task None = record { actors = inl refl; answer = tt }
 cancel_leaves key a c task (Some t) = cancelled_leaves key a c task t (task_cancelled t.move)
 
-serve_leaves : (key : Key) (a : Actor) (c : Core) (id : MessageId) (r : Receipt) (b : Bool) (o : Option Outbound) → Leaves a c (serve_made key a c id r b o)
-serve_leaves key a c id r true o = record { actors = inl refl; answer = tt }
-serve_leaves key a c id r false None = record { actors = inl refl; answer = tt }
-serve_leaves key a c id r false (Some x) = record { actors = inl refl; answer = tt }
+forwards_same : (key : Key) (a : Actor) (id : MessageId) (os : List Outbound) (c : Core) → (forwards_made key a id os c).core.actors ≡ c.actors
+forwards_same key a id [] c = refl
+forwards_same key a id (o ∷ os) c = forwards_same key a id os c
+
+serve_leaves : (key : Key) (a : Actor) (c : Core) (id : MessageId) (r : Receipt) (b : Bool) (os : List Outbound) → Leaves a c (serve_made key a c id r b os)
+serve_leaves key a c id r true os = record { actors = inl refl; answer = tt }
+serve_leaves key a c id r false os = record { actors = inl (forwards_same key a id os c); answer = tt }
 
 act_leaves : (key : Key) (a : Actor) (c : Core) (x : Act) → Leaves a c (act_made key a c x)
 unfolding act_made
@@ -158,7 +161,7 @@ act_leaves key a c (acts.Change text timeout) = change_leaves key a c text timeo
 act_leaves key a c (acts.Prolong text timeout) = change_leaves key a c text (unwrap_or timeout (c.queue.settings.visibility / 1000)) (read_receipt text)
 act_leaves key a c (acts.Start task) = start_leaves key a c task (task_numbered task c)
 act_leaves key a c (acts.Cancel task) = cancel_leaves key a c task (task_numbered task c)
-act_leaves key a c (acts.Serve id r failed forward) = serve_leaves key a c id r failed forward
+act_leaves key a c (acts.Serve id r failed forwards) = serve_leaves key a c id r failed forwards
 act_leaves key a c acts.Nothing = record { actors = inl refl; answer = tt }
 
 -- the actor of a site that acted is as its decision left it, but for its polls

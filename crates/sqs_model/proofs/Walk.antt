@@ -1,48 +1,40 @@
 -- Laws of a handling by single changes of a site: a call gives its rows one after another, and each row is a change.
 -- Each such law is a law by calls, so one walk serves them all.
-use Rattle.std.specs.List.{list_any}
-use Rattle.std.specs.Prelude.{Bool, Err, List, None, Ok, Option, Result, Some, [], false, find, if◌then◌else◌, map, suc, true, unwrap_or, zero, ℕ, ◌-◌, ◌/◌, ◌+◌, ◌==◌, ◌∷◌, ◌≡◌}
+use Rattle.std.specs.Prelude.{Bool, Err, List, None, Ok, Option, Result, Some, [], false, find, if◌then◌else◌, map, true, ℕ, ◌+◌, ◌==◌, ◌∷◌, ◌≡◌}
 use Rattle.std.proofs.Common.{refl}
 use Rattle.sim_clock.specs.declared.key.Class.{Class}
 use Rattle.sim_clock.specs.declared.key.Class.TheVariants as classes
 use Rattle.sim_clock.specs.declared.key.Key.{Key}
 use Rattle.sim_clock.specs.declared.refusal.Refusal.{Refusal}
-use Rattle.sim_clock.specs.declared.refusal.Refusal.TheVariants as refusals
 use Rattle.sim_clock.specs.Firsts.{without}
+use Rattle.sim_engine.specs.Members.{Each}
 use Rattle.sqs_message.specs.declared.ids.MessageId.{MessageId}
 use Rattle.sqs_message.specs.declared.ids.Origin.{Origin}
 use Rattle.sqs_message.specs.declared.ids.Receipt.{Receipt}
 use Rattle.sqs_message.specs.declared.row.Detail.TheVariants as details
 use Rattle.sqs_message.specs.declared.row.Row.{Row}
 use Rattle.sqs_message.specs.declared.row.RowAnswer.TheVariants as answers
-use Rattle.sqs_message.specs.declared.row.RowKind.TheVariants as kinds
 use Rattle.sqs_message.specs.Ids.{read_receipt}
-use Rattle.sqs_redrive.specs.MoveTasks.{MoveTask, is_running, task_started}
+use Rattle.sqs_redrive.specs.MoveTasks.{task_started}
 use Rattle.sqs_redrive.specs.declared.answers.Got.{Got}
-use Rattle.sqs_redrive.specs.declared.settings.Kind.{Kind}
-use Rattle.sqs_redrive.specs.declared.settings.Kind.TheVariants.{Fifo, Standard}
 use Rattle.sqs_redrive.specs.declared.settings.TaskStatus.TheVariants.{Cancelled}
 use Rattle.sqs_redrive.specs.declared.transfers.Load.{Load}
 use Rattle.sqs_redrive.specs.declared.transfers.Outbound.{Outbound}
 use Rattle.sqs_model.specs.declared.acts.Act.{Act}
-use Rattle.sqs_model.specs.declared.acts.Act.TheVariants as acts
 use Rattle.sqs_model.specs.declared.acts.Answer.{Answer}
 use Rattle.sqs_model.specs.declared.acts.Answer.TheVariants as told_by
 use Rattle.sqs_model.specs.Actor.{Actor, next}
-use Rattle.sqs_model.specs.Acts.{Made, act_made, all_came_back, came_back, cancel_done, cancel_made, change_answered, change_made, change_row, delete_done, delete_made, forward_row, given, got_row, long_poll, made, receive_as, receive_made, receive_none, receive_row, receive_some, redrive_by, runs, send_made, sends, serve_made, short_poll, start_made, task_row, with_poll}
+use Rattle.sqs_model.specs.Acts.{act_made, all_came_back, came_back, change_answered, change_made, change_row, delete_done, delete_made, forward_made, forwards_made, given, got_row, receive_some, redrive_by, send_made, sends, serve_made, with_poll}
 use Rattle.sqs_model.specs.Arrive.{arrived}
-use Rattle.sqs_model.specs.Available.{all_hosts}
 use Rattle.sqs_model.specs.Calls.{change, delete}
-use Rattle.sqs_model.specs.Draw.{Draws, drawn_uniform}
-use Rattle.sqs_model.specs.Polls.{acts_found, acts_most, acts_next, answer_polls, answer_when, can_give, poll_answered, poll_given, told, without_poll}
+use Rattle.sqs_model.specs.Draw.{drawn_uniform}
+use Rattle.sqs_model.specs.Polls.{acts_most, acts_next, answer_polls, poll_answered, without_poll}
 use Rattle.sqs_model.specs.Queue.{Queue, id_of}
 use Rattle.sqs_model.specs.Receive.{give_most, timeout_of}
 use Rattle.sqs_model.specs.Return.{released}
 use Rattle.sqs_model.specs.Site.{Core, Effect, Poll, Site, actor_numbered, and_then, has_key, no_effect, number_of, says, task_numbered, with_actor, with_queue, with_task}
-use Rattle.sqs_model.specs.Step.{Handled, release_done, arrival_done, ends_at, handle_arrival, handle_class, handle_expiry, handle_step, handled, handled_when, is_arrival, with_polls}
+use Rattle.sqs_model.specs.Step.{release_done, arrival_done, ends_at, handle_arrival, handle_class, handle_expiry, handle_step, handled, is_arrival, with_polls}
 use Rattle.sqs_model.specs.Task.{Task}
-use Rattle.sqs_model.proofs.Answered.{receive_by}
-use Rattle.sqs_model.proofs.Branches.{either, either_by}
 use Rattle.sqs_model.proofs.Ledger.{marks}
 use Rattle.sqs_model.proofs.Sending.{Sends}
 use Rattle.sqs_model.proofs.CallWalk as walk
@@ -115,12 +107,12 @@ pub record TurnLaw (key : Key) : Type 1 where
   -- actors: what holds of one after its turn among the actors of its site, and of what its act may send; its poll begins to wait;
   -- what it forwards is sent
   pub Stands : List Actor → Actor → Type 0
-  pub Sent : Option Outbound → Type 0
+  pub Sent : Outbound → Type 0
   pub turns :
       (p : Past) (n : ℕ) (c : Core) (a : Actor) (w : Answer) → actor_numbered n c ≡ Some a → At p [] c
       → At p [] (with_actor c (next a key.at w).1) × Stands (with_actor c (next a key.at w).1).actors (next a key.at w).1 × Sends Sent (next a key.at w).0
   pub polls : (p : Past) (a : Actor) (c : Core) (max wait : ℕ) (timeout : Option ℕ) → (wait == 0) ≡ false → Stands c.actors a → At p [] c → At p [] (with_poll key a c max wait timeout)
-  pub forwards : (p : Past) (a : Actor) (c : Core) (id : MessageId) (o : Outbound) → Sent (Some o) → At p [] c → Goes p [] (record { core = c; rows = forward_row key a c id o.to ∷ []; sent = o ∷ [] })
+  pub forwards : (p : Past) (a : Actor) (c : Core) (id : MessageId) (o : Outbound) → Sent o → At p [] c → Goes p [] (forward_made key a id o c)
 
 module _ (key : Key) (law : TurnLaw key) where
   open law use {Past, At, Goes, after, done, joins, quiet, Stands, Sent}
@@ -178,10 +170,14 @@ module _ (key : Key) (law : TurnLaw key) where
   changes_by p a c text timeout None h = says_only p c _ (record { at_key = refl; at_site = refl; silent = λ o. refl }) h
   changes_by p a c text timeout (Some r) h = answered_goes p a c text timeout r _ h (law.changes p c r timeout h)
 
-  pub serves_by : (p : Past) (a : Actor) (c : Core) (id : MessageId) (r : Receipt) (b : Bool) (o : Option Outbound) → Sent o → At p [] c → Goes p [] (serve_made key a c id r b o).effect
-  serves_by p a c id r true o s h = says_only p c _ (record { at_key = refl; at_site = refl; silent = λ o. refl }) h
-  serves_by p a c id r false None s h = nothing p [] c h
-  serves_by p a c id r false (Some o) s h = law.forwards p a c id o s h
+  forwards_go : (a : Actor) (id : MessageId) (os : List Outbound) (p : Past) (c : Core) → Each Sent os → At p [] c → Goes p [] (forwards_made key a id os c)
+  forwards_go a id [] p c s h = nothing p [] c h
+  forwards_go a id (o ∷ os) p c s h =
+      follows p [] (forward_made key a id o c) (forwards_made key a id os) (λ q d k. forwards_go a id os q d s.1 k) (law.forwards p a c id o s.0 h)
+
+  pub serves_by : (p : Past) (a : Actor) (c : Core) (id : MessageId) (r : Receipt) (b : Bool) (os : List Outbound) → Each Sent os → At p [] c → Goes p [] (serve_made key a c id r b os).effect
+  serves_by p a c id r true os s h = says_only p c _ (record { at_key = refl; at_site = refl; silent = λ o. refl }) h
+  serves_by p a c id r false os s h = forwards_go a id os p c s h
 
   -- the law by calls; what an answer tells is nothing to it
   abbrev pub by_calls : CallLaw key
@@ -208,7 +204,7 @@ module _ (key : Key) (law : TurnLaw key) where
         May = λ c x. Sends Sent x;
         turns = λ p n c a w e t h. law.turns p n c a w e h;
         polls = law.polls;
-        serves = λ p a c id r b o m h. serves_by p a c id r b o m h;
+        serves = λ p a c id r b os m h. serves_by p a c id r b os m h;
       }
 
   told_any : (c : Core) (w : Answer) → IsTold (λ _ _. Unit {0}) c w

@@ -17,7 +17,7 @@ use Rattle.sqs_model.specs.declared.agents.Role.TheVariants.{Consumer, Producer,
 use Rattle.sqs_model.specs.Progress.{IsSoundForward, IsSoundPolicy, IsSoundRole, IsSoundScenario, IsSoundSettings, TakesTime}
 use Rattle.sqs_model.specs.Scenario.{Scenario, edge, edges, forward_edges, leads_to, numbered_actors, numbered_tasks, opening_actor, opening_core, opening_site, opening_task, policy_edges, role_edges, task_edges, task_goals}
 use Rattle.sqs_model.proofs.Members.{From, In, all_in, in_append, in_flat, in_left, in_map, in_right, into_filter, into_flat, into_map, of_all}
-use Rattle.sqs_model.specs.Ways.{CameOver, ComesOver, HasActorWay, HasCoreWays, HasForwardWay, HasPolicyWay, HasRoleWay, HasTaskWay, HasTaskWays, HasWays, Leads, MayMoveTo, OpeningHasWays, home_of, homes}
+use Rattle.sqs_model.specs.Ways.{CameOver, ComesOver, HasActorWays, HasCoreWays, HasForwardWays, HasPolicyWay, HasRoleWays, HasTaskWay, HasTaskWays, HasWays, Leads, MayMoveTo, OpeningHasWays, home_of, homes}
 
 -- what is picked of a list is one of it, and picked
 from_filter : {A : Type 0} (p : A → Bool) (xs : List A) (x : A) → In (filter p xs) x → In xs x × (p x ≡ true)
@@ -117,15 +117,16 @@ module _ (s : Scenario) where
         into_map (λ (y : ℕ × QueueSettings). y.0) (filter (λ y. leads_to p.dead_letter y.1.policy) (enumerate_from 0 s.queues)) x (into_filter (λ (y : ℕ × QueueSettings). leads_to p.dead_letter y.1.policy) (enumerate_from 0 s.queues) x h t),
       )
 
-  over_way : (a : ActorSettings) (o : Option Forwarding) → In s.actors a → ((e : Edge) → In (forward_edges a.home o) e → In (role_edges a.home a.role) e) → HasForwardWay (edges s) a.home o
-  over_way a None h k = tt
-  over_way a (Some f) h k =
-      let w : Edge = edge a.home f.to f.latency in of_actors w (into_flat (λ (b : ActorSettings). role_edges b.home b.role) s.actors a w h (k w (inl refl)))
+  over_ways : (a : ActorSettings) (o : Option Forwarding) → In s.actors a → ((e : Edge) → In (forward_edges a.home o) e → In (role_edges a.home a.role) e) → HasForwardWays (edges s) a.home o
+  over_ways a None h k = tt
+  over_ways a (Some f) h k =
+      all_in (λ to. In (edges s) (edge a.home to f.latency)) f.to
+      (λ to i. let w : Edge = edge a.home to f.latency in of_actors w (into_flat (λ (b : ActorSettings). role_edges b.home b.role) s.actors a w h (k w (into_map (λ n. edge a.home n f.latency) f.to to i))))
 
-  role_way : (a : ActorSettings) (r : Role) → In s.actors a → a.role ≡ r → HasRoleWay (edges s) a.home r
-  role_way a (Script script) h e = tt
-  role_way a (Producer p) h e = tt
-  role_way a (Consumer c) h e = over_way a c.forward h (λ x i. subst (λ r. In (role_edges a.home r) x) (sym e) i)
+  role_ways : (a : ActorSettings) (r : Role) → In s.actors a → a.role ≡ r → HasRoleWays (edges s) a.home r
+  role_ways a (Script script) h e = tt
+  role_ways a (Producer p) h e = tt
+  role_ways a (Consumer c) h e = over_ways a c.forward h (λ x i. subst (λ r. In (role_edges a.home r) x) (sym e) i)
 
   task_way : (t : TaskSettings) (o : Option ℕ) → In s.tasks t → t.to ≡ o → (d : ℕ) → MayMoveTo (Leads s) t.home o d → In (edges s) (edge t.home d t.latency)
   task_way t (Some to) h e d m =
@@ -138,13 +139,13 @@ module _ (s : Scenario) where
       of_tasks w (into_flat (task_edges s) s.tasks t w h (into_map (λ to. edge t.home to t.latency) (task_goals s t t.to) d i))
 
   -- an actor that opens at its home, and a task
-  actor_opens : (n : ℕ) (x : ℕ × ActorSettings) → In (filter (λ y. y.1.home == n) (numbered_actors s)) x → HasActorWay (edges s) (home_of s) n (opening_actor s.seed x)
+  actor_opens : (n : ℕ) (x : ℕ × ActorSettings) → In (filter (λ y. y.1.home == n) (numbered_actors s)) x → HasActorWays (edges s) (home_of s) n (opening_actor s.seed x)
   actor_opens n x h =
       let f : In (numbered_actors s) x × ((x.1.home == n) ≡ true) = from_filter (λ (y : ℕ × ActorSettings). y.1.home == n) (numbered_actors s) x h in
       let e : x.1.home ≡ n = eqb-true x.1.home n f.1 in
       record {
         at_home = actor_home x f.0 ∙ e;
-        way = subst (λ k. HasRoleWay (edges s) k x.1.role) e (role_way x.1 x.1.role (from_numbered (length s.queues) s.actors x f.0) refl);
+        ways = subst (λ k. HasRoleWays (edges s) k x.1.role) e (role_ways x.1 x.1.role (from_numbered (length s.queues) s.actors x f.0) refl);
       }
 
   task_opens : (n : ℕ) (x : ℕ × TaskSettings) → In (filter (λ y. y.1.home == n) (numbered_tasks s)) x → HasTaskWay (edges s) (home_of s) (Leads s) n (opening_task s.seed x)
@@ -160,7 +161,7 @@ module _ (s : Scenario) where
       record {
         queue = record { site_is = refl; policy = policy_way x x.1.policy h refl; sources = All-nil (λ (m : Message). CameOver (Leads s) x.0 m.source) };
         at_home = queue_home x h;
-        actors = All-map (HasActorWay (edges s) (home_of s) x.0) (opening_actor s.seed) (filter (λ y. y.1.home == x.0) (numbered_actors s)) (all_in (λ y. HasActorWay (edges s) (home_of s) x.0 (opening_actor s.seed y)) (filter (λ y. y.1.home == x.0) (numbered_actors s)) (actor_opens x.0));
+        actors = All-map (HasActorWays (edges s) (home_of s) x.0) (opening_actor s.seed) (filter (λ y. y.1.home == x.0) (numbered_actors s)) (all_in (λ y. HasActorWays (edges s) (home_of s) x.0 (opening_actor s.seed y)) (filter (λ y. y.1.home == x.0) (numbered_actors s)) (actor_opens x.0));
         tasks = All-map (HasTaskWay (edges s) (home_of s) (Leads s) x.0) (opening_task s.seed) (filter (λ y. y.1.home == x.0) (numbered_tasks s)) (all_in (λ y. HasTaskWay (edges s) (home_of s) (Leads s) x.0 (opening_task s.seed y)) (filter (λ y. y.1.home == x.0) (numbered_tasks s)) (task_opens x.0));
       }
 
@@ -180,8 +181,9 @@ module _ (s : Scenario) where
 
   forward_least : (n : ℕ) (o : Option Forwarding) (e : Edge) → IsSoundForward o → In (forward_edges n o) e → 1 ≤ e.least
   forward_least n None e h i = absurd i
-  forward_least n (Some f) e h (inl k) = subst (λ (x : Edge). 1 ≤ x.least) k h
-  forward_least n (Some f) e h (inr k) = absurd k
+  forward_least n (Some f) e h i =
+      let from : From f.to (λ to. edge n to f.latency ≡ e) = in_map (λ to. edge n to f.latency) f.to e i in
+      subst (λ (x : Edge). 1 ≤ x.least) from.gives h
 
   role_least : (n : ℕ) (r : Role) (e : Edge) → IsSoundRole r → In (role_edges n r) e → 1 ≤ e.least
   role_least n (Script script) e h i = absurd i

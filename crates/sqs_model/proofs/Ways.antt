@@ -50,14 +50,14 @@ use Rattle.sqs_model.proofs.Chosen.{open_all}
 use Rattle.sqs_model.proofs.Grouped.{all_groups}
 use Rattle.sqs_model.proofs.Counts.{all_changed, all_without, find_all}
 use Rattle.sqs_model.proofs.Effects.{latency_least}
-use Rattle.sqs_model.specs.Ways.{CameOver, ComesOver, FitsWays, HandlingGoesAlongWays, AcceptingKeepsWays, HasActorWay, HasCoreWays, HasForwardWay, HasPolicyWay, HasQueueWays, HasRoleWay, HasTaskWay, HasTaskWays, IsRowOf, IsSentBy, LeadsBy, MayMoveTo}
+use Rattle.sqs_model.specs.Ways.{CameOver, ComesOver, FitsWays, HandlingGoesAlongWays, AcceptingKeepsWays, HasActorWays, HasCoreWays, HasForwardWays, HasPolicyWay, HasQueueWays, HasRoleWays, HasTaskWay, HasTaskWays, IsRowOf, IsSentBy, LeadsBy, MayMoveTo}
 use Rattle.sqs_model.specs.Scenario.{edge}
 use Rattle.std.specs.Ordering.{on as by}
 use Rattle.sim_clock.specs.Order.{key_cmp}
 use Rattle.sim_clock.proofs.Lists.{all_inserted}
 use Rattle.sim_engine.proofs.Parts.{each_append}
 use Rattle.sqs_redrive.specs.Transfers.{transfer_key}
-use Rattle.sqs_model.proofs.Members.{Each, all_each}
+use Rattle.sqs_model.proofs.Members.{Each, In, all_each, of_all}
 
 module _ (edges : List Edge) (home : ℕ → ℕ) (leads : ℕ → ℕ → Type 0) (site : ℕ) where
   -- 1. queues
@@ -138,7 +138,7 @@ module _ (edges : List Edge) (home : ℕ → ℕ) (leads : ℕ → ℕ → Type 
   Fine c = HasCoreWays edges home leads site c
 
   abbrev FineActor : Actor → Type 0
-  FineActor a = HasActorWay edges home site a
+  FineActor a = HasActorWays edges home site a
 
   abbrev FineTask : Task → Type 0
   FineTask t = HasTaskWay edges home leads site t
@@ -234,15 +234,11 @@ module _ (edges : List Edge) (home : ℕ → ℕ) (leads : ℕ → ℕ → Type 
   polled_fine : (a : Actor) (c : Core) (max wait : ℕ) (timeout : Option ℕ) → FineActor a → Fine c → Fine (with_poll key a c max wait timeout)
   polled_fine a c max wait timeout k h =
       let b : Actor = record a { polls = a.polls + 1 } in
-      fine_polls (with_actor c b) (with_poll key a c max wait timeout).polls (fine_actor c b h (record { at_home = k.at_home; way = k.way }))
-
-  abbrev MaySend : Option Outbound → Type 0
-  MaySend None = Unit {0}
-  MaySend (Some o) = IsOwnSent o
+      fine_polls (with_actor c b) (with_poll key a c max wait timeout).polls (fine_actor c b h (record { at_home = k.at_home; ways = k.ways }))
 
   -- what an act sends
   abbrev SendsOver : Act → Type 0
-  SendsOver act = Sends MaySend act
+  SendsOver act = Sends IsOwnSent act
 
   -- what an actor sends, that keeps its number and settings
   forward_fits : (to : ℕ) (load : Load) → IsForward load → ComesOver leads to load
@@ -250,26 +246,26 @@ module _ (edges : List Edge) (home : ℕ → ℕ) (leads : ℕ → ℕ → Type 
   forward_fits to (Move id group origin body) h = absurd h
   forward_fits to (Forward id group body) h = tt
 
-  may_send : (a : Actor) (f : Option Forwarding) (o : Option Outbound) → home a.number ≡ site → HasForwardWay edges site f → MayForwardBy key.at a f o → MaySend o
-  may_send a f None h w by = tt
-  may_send a None (Some o) h w by = absurd by
-  may_send a (Some f) (Some o) h w by =
-      (record { sender = ap home by.sender ∙ h; way = edge site f.to f.latency; there = w; from = refl; to = sym by.to; late = by.late }, forward_fits o.to o.load by.load)
+  own_sent : (a : Actor) (f : Option Forwarding) (o : Outbound) → home a.number ≡ site → HasForwardWays edges site f → MayForwardBy key.at a f o → IsOwnSent o
+  own_sent a None o h w by = absurd by
+  own_sent a (Some f) o h w by =
+      let way : In edges (edge site o.to f.latency) = of_all (λ to. In edges (edge site to f.latency)) f.to o.to w by.to in
+      (record { sender = ap home by.sender ∙ h; way = edge site o.to f.latency; there = way; from = refl; to = refl; late = by.late }, forward_fits o.to o.load by.load)
 
-  role_way : (r : Role) → HasRoleWay edges site r → HasForwardWay edges site (forward_of r)
-  role_way (Script script) h = tt
-  role_way (Producer p) h = tt
-  role_way (Consumer c) h = h
+  role_ways : (r : Role) → HasRoleWays edges site r → HasForwardWays edges site (forward_of r)
+  role_ways (Script script) h = tt
+  role_ways (Producer p) h = tt
+  role_ways (Consumer c) h = h
 
   next_over : (a : Actor) (w : Answer) → FineActor a → SendsOver (next a key.at w).0
   next_over a w k =
       let f : Option Forwarding = forward_of a.settings.role in
-      sends_as (MayForwardBy key.at a f) MaySend (λ o h. may_send a f o k.at_home (role_way a.settings.role k.way) h) (next a key.at w).0 (next_decides key.at a w).sends
+      sends_as (MayForwardBy key.at a f) IsOwnSent (λ o h. own_sent a f o k.at_home (role_ways a.settings.role k.ways) h) (next a key.at w).0 (next_decides key.at a w).sends
 
   after_over : (a : Actor) (w : Answer) → FineActor a → FineActor (next a key.at w).1
   after_over a w k =
       let d = next_decides key.at a w in
-      record { at_home = ap home d.number ∙ k.at_home; way = subst (λ (t : ActorSettings). HasRoleWay edges site t.role) (sym d.settings) k.way }
+      record { at_home = ap home d.number ∙ k.at_home; ways = subst (λ (t : ActorSettings). HasRoleWays edges site t.role) (sym d.settings) k.ways }
 
   -- what is due
   arrival_own : (c : Core) (load : Load) (x : Sent × Bool) → c.queue.site ≡ site → Each IsOwnRow (arrival_rows key c load x)
@@ -369,7 +365,7 @@ module _ (edges : List Edge) (home : ℕ → ℕ) (leads : ℕ → ℕ → Type 
         starts = λ _ c n t e h. (started_fine c n t (task_started t.move key.at) e refl h.0, tt);
         cancels = λ _ c n t e h. (started_fine c n t (record t.move { status = Cancelled }) e refl h.0, tt);
         Stands = λ _ a. FineActor a;
-        Sent = MaySend;
+        Sent = IsOwnSent;
         turns = λ _ n c a w e h.
             let k : FineActor a = find_all (is_actor n) FineActor c.actors a h.0.actors e in
             let b : FineActor (next a key.at w).1 = after_over a w k in

@@ -21,6 +21,7 @@ use Rattle.sqs_model.specs.declared.agents.Serving.TheVariants.{Each, Once}
 use Rattle.sqs_model.specs.declared.agents.Stretch.{Stretch}
 use Rattle.sqs_model.specs.declared.agents.Role.TheVariants.{Consumer, Producer, Script}
 use Rattle.sqs_redrive.specs.declared.answers.Got.{Got}
+use Rattle.sqs_redrive.specs.declared.settings.Latency.{Latency}
 use Rattle.sqs_redrive.specs.declared.transfers.Outbound.{Outbound}
 use Rattle.sqs_message.specs.Ids.{receipt_text}
 use Rattle.sqs_model.specs.Draw.{Draws, drawn_chance, drawn_group, drawn_latency, drawn_time, drawn_uniform}
@@ -203,15 +204,24 @@ abbrev pub forward_of : Actor → ℕ → Got → ℕ → ℕ → Outbound
 forward_of a now g to latency =
     record { at = now + latency; sender = a.number; number = a.sent; from = a.settings.home; to = to; load = loads.Forward g.id g.group g.body }
 
--- a service that ended well, with a forward
-abbrev pub forwards : Actor → ℕ → Got → ℕ → ℕ × Draws → Act × Actor
-forwards a now g to (latency, draws) =
-    (acts.Serve g.id g.receipt false (Some (forward_of a now g to latency)), record a { sent = a.sent + 1; draws = draws })
+-- an actor that sent one transfer more, whose latency was drawn
+abbrev pub sent_one : Latency → Actor → Actor
+sent_one l a = record a { sent = a.sent + 1; draws = (drawn_latency l a.draws).1 }
 
--- a service that ended well
+-- the transfers of a served message to some queues, one after another; the latency of each is drawn by itself
+abbrev pub forwards : Actor → ℕ → Got → Latency → List ℕ → List Outbound
+forwards a now g l [] = []
+forwards a now g l (to ∷ tos) = forward_of a now g to (drawn_latency l a.draws).0 ∷ forwards (sent_one l a) now g l tos
+
+-- the actor that sent them
+abbrev pub has_forwarded : Latency → List ℕ → Actor → Actor
+has_forwarded l [] a = a
+has_forwarded l (to ∷ tos) a = has_forwarded l tos (sent_one l a)
+
+-- a service that ended well; the message goes to each queue to which the actor forwards
 abbrev pub serves : Actor → ℕ → Got → Option Forwarding → Act × Actor
-serves a now g None = (acts.Serve g.id g.receipt false None, a)
-serves a now g (Some f) = forwards a now g f.to (drawn_latency f.latency a.draws)
+serves a now g None = (acts.Serve g.id g.receipt false [], a)
+serves a now g (Some f) = (acts.Serve g.id g.receipt false (forwards a now g f.latency f.to), has_forwarded f.latency f.to a)
 
 -- a consumer that does nothing more of a failed service; if its receives fail as a whole, it lets all of this one go
 abbrev pub lets_go : Bool → Actor → Actor
@@ -230,7 +240,7 @@ after_failure (s ∷ timeouts) c a g = will_back_off c.whole a g
 
 -- the end of a service that failed
 abbrev pub fails_service : Actor → ConsumerSettings → Got → Act × Actor
-fails_service a c g = (acts.Serve g.id g.receipt true None, record (after_failure c.backoff c a g) { last_act = Failed })
+fails_service a c g = (acts.Serve g.id g.receipt true [], record (after_failure c.backoff c a g) { last_act = Failed })
 
 -- the first of the messages that were served is forwarded and then deleted
 abbrev pub settles : Actor → ConsumerSettings → ℕ → Got → List Got → Act × Actor
@@ -238,7 +248,7 @@ settles a c now g gs = serves (record a { done = gs; last_act = Served g.receipt
 
 -- a message of a receive was served well, and others of it are to be served
 abbrev pub served_one : Actor → Got → Act × Actor
-served_one a g = (acts.Serve g.id g.receipt false None, record a { done = a.done ++ g ∷ []; last_act = Ended })
+served_one a g = (acts.Serve g.id g.receipt false [], record a { done = a.done ++ g ∷ []; last_act = Ended })
 
 -- the last message of a receive was served well
 abbrev pub served_all : Actor → ConsumerSettings → ℕ → List Got → Act × Actor

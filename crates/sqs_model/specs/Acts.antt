@@ -231,13 +231,20 @@ cancel_made key a c task (Some t) = cancel_done key a c task t (task_cancelled t
 abbrev pub forward_row : Key → Actor → Core → MessageId → ℕ → Row
 forward_row key a c id to = row key c a.number kinds.Forward answers.Out (Some id) receipts.Absent (details.Queue to)
 
--- the end of a service: a row if it failed, and else the forward on its way, if any
-abbrev pub serve_made : Key → Actor → Core → MessageId → Receipt → Bool → Option Outbound → Made
-serve_made key a c id receipt true forward =
+-- a forward on its way, with its row
+abbrev pub forward_made : Key → Actor → MessageId → Outbound → Core → Effect
+forward_made key a id o c = record { core = c; rows = forward_row key a c id o.to ∷ []; sent = o ∷ [] }
+
+-- some forwards on their way, one after another
+abbrev pub forwards_made : Key → Actor → MessageId → List Outbound → Core → Effect
+forwards_made key a id [] c = no_effect c
+forwards_made key a id (o ∷ os) c = and_then (forward_made key a id o c) (forwards_made key a id os)
+
+-- the end of a service: a row if it failed, and else the forwards on their way, if any
+abbrev pub serve_made : Key → Actor → Core → MessageId → Receipt → Bool → List Outbound → Made
+serve_made key a c id receipt true forwards =
     made (says c (row key c a.number kinds.Fail answers.Ok (Some id) (receipts.Made receipt) details.Absent)) told_by.Other
-serve_made key a c id receipt false None = made (no_effect c) told_by.Other
-serve_made key a c id receipt false (Some o) =
-    made (record { core = c; rows = forward_row key a c id o.to ∷ []; sent = o ∷ [] }) told_by.Other
+serve_made key a c id receipt false forwards = made (forwards_made key a id forwards c) told_by.Other
 
 -- an act of an actor at its site
 unfoldable pub act_made : Key → Actor → Core → Act → Made
@@ -250,5 +257,5 @@ act_made key a c (acts.Prolong text timeout) =
     change_made key a c text (unwrap_or timeout (c.queue.settings.visibility / 1000)) (read_receipt text)
 act_made key a c (acts.Start task) = start_made key a c task (task_numbered task c)
 act_made key a c (acts.Cancel task) = cancel_made key a c task (task_numbered task c)
-act_made key a c (acts.Serve id receipt failed forward) = serve_made key a c id receipt failed forward
+act_made key a c (acts.Serve id receipt failed forwards) = serve_made key a c id receipt failed forwards
 act_made key a c acts.Nothing = made (no_effect c) told_by.Other

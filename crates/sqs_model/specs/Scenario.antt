@@ -108,10 +108,10 @@ abbrev pub policy_edges : ℕ → Option Policy → List Edge
 policy_edges n None = []
 policy_edges n (Some p) = edge n p.dead_letter p.latency ∷ []
 
--- from a consumer's queue to that to which it forwards
+-- from a consumer's queue to each of those to which it forwards
 abbrev pub forward_edges : ℕ → Option Forwarding → List Edge
 forward_edges n None = []
-forward_edges n (Some f) = edge n f.to f.latency ∷ []
+forward_edges n (Some f) = map (λ to. edge n to f.latency) f.to
 
 -- the same of any actor
 abbrev pub role_edges : ℕ → Role → List Edge

@@ -121,10 +121,15 @@ pub record IsProducer (p : ProducerSettings) : Type 0 where
   pub groups : MayBeGroups p.groups
   pub stop : MayBeMoment p.stop
 
+-- a forward to 1 to 10 queues
+pub record IsForwarding (f : Forwarding) : Type 0 where
+  pub count : Between 1 10 (length f.to)
+  pub latency : IsLatency f.latency
+
 -- a forward, if there is one
 abbrev pub MayBeForward : Option Forwarding → Type 0
 MayBeForward None = Unit {0}
-MayBeForward (Some f) = IsLatency f.latency
+MayBeForward (Some f) = IsForwarding f
 
 -- a timeout in seconds, if there is one
 abbrev pub MayBeTimeout : Option ℕ → Type 0

@@ -29,16 +29,16 @@ abbrev pub HasPolicyWay : List Edge → (ℕ → ℕ → Type 0) → ℕ → Opt
 HasPolicyWay edges leads site None = Unit {0}
 HasPolicyWay edges leads site (Some p) = In edges (edge site p.dead_letter p.latency) × leads site p.dead_letter
 
--- a consumer has the way to the queue to which it forwards
-abbrev pub HasForwardWay : List Edge → ℕ → Option Forwarding → Type 0
-HasForwardWay edges site None = Unit {0}
-HasForwardWay edges site (Some f) = In edges (edge site f.to f.latency)
+-- a consumer has the way to each queue to which it forwards
+abbrev pub HasForwardWays : List Edge → ℕ → Option Forwarding → Type 0
+HasForwardWays edges site None = Unit {0}
+HasForwardWays edges site (Some f) = All (λ to. In edges (edge site to f.latency)) f.to
 
 -- the same of any actor
-abbrev pub HasRoleWay : List Edge → ℕ → Role → Type 0
-HasRoleWay edges site (Script script) = Unit {0}
-HasRoleWay edges site (Producer p) = Unit {0}
-HasRoleWay edges site (Consumer c) = HasForwardWay edges site c.forward
+abbrev pub HasRoleWays : List Edge → ℕ → Role → Type 0
+HasRoleWays edges site (Script script) = Unit {0}
+HasRoleWays edges site (Producer p) = Unit {0}
+HasRoleWays edges site (Consumer c) = HasForwardWays edges site c.forward
 
 -- whether a task may move messages to a queue: to its destination, or without one to a queue that leads to its own
 abbrev pub MayMoveTo : (ℕ → ℕ → Type 0) → ℕ → Option ℕ → ℕ → Type 0
@@ -67,9 +67,9 @@ pub record HasQueueWays (edges : List Edge) (leads : ℕ → ℕ → Type 0) (si
   pub sources : All (λ m. CameOver leads site m.source) q.records
 
 -- an actor of a site, which is its home
-pub record HasActorWay (edges : List Edge) (home : ℕ → ℕ) (site : ℕ) (a : Actor) : Type 0 where
+pub record HasActorWays (edges : List Edge) (home : ℕ → ℕ) (site : ℕ) (a : Actor) : Type 0 where
   pub at_home : home a.number ≡ site
-  pub way : HasRoleWay edges site a.settings.role
+  pub ways : HasRoleWays edges site a.settings.role
 
 -- a task of a site, which is its home
 pub record HasTaskWay (edges : List Edge) (home : ℕ → ℕ) (leads : ℕ → ℕ → Type 0) (site : ℕ) (t : Task) : Type 0 where
@@ -80,7 +80,7 @@ pub record HasTaskWay (edges : List Edge) (home : ℕ → ℕ) (leads : ℕ → 
 pub record HasCoreWays (edges : List Edge) (home : ℕ → ℕ) (leads : ℕ → ℕ → Type 0) (site : ℕ) (c : Core) : Type 0 where
   pub queue : HasQueueWays edges leads site c.queue
   pub at_home : home site ≡ site
-  pub actors : All (HasActorWay edges home site) c.actors
+  pub actors : All (HasActorWays edges home site) c.actors
   pub tasks : All (HasTaskWay edges home leads site) c.tasks
 
 -- a site that sends over edges alone

@@ -1,6 +1,7 @@
 //! The answers that an actor gets, and its acts.
+use crate::outbounds::Outbounds;
 use sqs_message::{Body, Call, MessageId, Receipt, ReceiptHandle, Text};
-use sqs_redrive::{Batch, Outbound};
+use sqs_redrive::Batch;
 use std::alloc::{AllocError, Global};
 
 /// An answer that an actor gets.
@@ -49,12 +50,12 @@ pub enum Act {
         task: u32,
     },
     /// The service of a message ended. It has the message, the receipt that the actor got with it,
-    /// whether the service failed, and, if it did not, what is forwarded to another queue.
+    /// whether the service failed, and, if it did not, what is forwarded to other queues.
     Serve {
         id: MessageId,
         receipt: Receipt,
         failed: bool,
-        forward: Option<Outbound>,
+        forwards: Outbounds,
     },
     Nothing,
 }

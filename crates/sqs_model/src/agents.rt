@@ -83,11 +83,12 @@ pub enum Serving {
     Once { each: u64 },
 }
 
-/// The queue to which a consumer forwards what it served.
-#[derive(Clone, Copy, Debug, PartialEq, Eq)]
+/// The queues to which a consumer forwards what it served.
+#[derive(Drop)]
 pub struct Forwarding {
-    /// The number of the queue.
-    pub to: u32,
+    /// The numbers of the queues, in order. A queue that is named twice gets two messages.
+    pub to: Listed<u32>,
+    /// How long each transfer takes.
     pub latency: Latency,
 }
 

@@ -8,6 +8,7 @@ mod agents;
 mod finals;
 mod laws;
 mod limits;
+mod outbounds;
 
 pub use acts::{Act, Answer};
 pub use agents::{
@@ -28,3 +29,4 @@ pub use laws::{
 pub use limits::{
     DEDUPLICATION_INTERVAL, LONGEST_DELAY, LONGEST_FLIGHT, LONGEST_TIMEOUT, MOST_COUNT,
 };
+pub use outbounds::Outbounds;

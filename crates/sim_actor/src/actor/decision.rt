@@ -2,7 +2,7 @@
 ghost use Rattle.std.specs.Prelude.{◌≤◌};
 ghost use Rattle.sqs_model.specs.Actor.{next as the_next, next_as};
 ghost use Rattle.sqs_model.specs.Answers.{most_count};
-ghost use Rattle.sim_actor.specs.Lives.{DoesNothing, FollowsUp, IsFramed, Meets, answer_of, greatest_count};
+ghost use Rattle.sim_actor.specs.Lives.{Decides, DoesNothing, FollowsUp, IsFramed, answer_of, greatest_count};
 
 use super::Actor;
 use crate::replies::{FollowUp, Reply};
@@ -14,7 +14,7 @@ impl Actor {
     // Decides when its wake has come.
     fn next_woken(&mut self, now: u64) -> Result<Act, Refusal>
         requires { now ≤ most_count }
-        ensures decision { Meets result self.old self.new
+        ensures decision { Decides result self.new
             (next_as self.old.settings.role self.old now Answer.Wake) }
         ensures framed { IsFramed self.old self.new }
     {
@@ -74,12 +74,12 @@ impl Actor {
     ///
     /// # Errors
     ///
-    /// `Memory`: the actor is as it was. `CountLimit` exactly if the decision would count past the
-    /// limit; nothing is promised of the actor after it.
+    /// `CountLimit` exactly if the decision would count past the limit, and `Memory`, which a
+    /// consumer that forwards may report. After either nothing is promised of the actor.
     #[tactic(auto, unfolding(sqs_model::specs::Actor::next))]
     pub fn woken(&mut self, now: u64) -> Result<Act, Refusal>
         requires { now ≤ most_count }
-        ensures decision { Meets result self.old self.new (the_next self.old now Answer.Wake) }
+        ensures decision { Decides result self.new (the_next self.old now Answer.Wake) }
         ensures counted { greatest_count self.new ≤ most_count }
         ensures framed { IsFramed self.old self.new }
     {

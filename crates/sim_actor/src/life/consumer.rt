@@ -1,4 +1,5 @@
 //! What a consumer does.
+ghost use Rattle.std.specs.Option.{option_copied};
 ghost use Rattle.std.specs.Prelude.{◌≡◌, ◌<◌, ◌≤◌, ◌+◌, [], All, Ok, Some, false, if◌then◌else◌, max};
 ghost use Rattle.sqs_message.specs.Ids.{receipt_text};
 ghost use Rattle.sqs_model.specs.declared.agents.ActorSettings.{ActorSettings};
@@ -6,7 +7,7 @@ ghost use Rattle.sqs_model.specs.declared.agents.Serving.TheVariants.{Each};
 ghost use Rattle.sqs_model.specs.Actor.{woken, idle as the_idle, serving as the_serving, serves as the_serves, settles as the_settles, fails_service as the_fails_service, backs_off as the_backs_off, backoff_at as the_backoff_at, goes_on as the_goes_on, drawn_failure, has_failed as the_has_failed, outcome as the_outcome, rests as the_rests, consumer_wake as the_consumer_wake, consumer_got as the_consumer_got, consumer_told as the_consumer_told};
 ghost use Rattle.sqs_model.specs.Answers.{most_count};
 ghost use Rattle.sqs_model.specs.Longest.{longest_timeout};
-ghost use Rattle.sqs_model.specs.Valid.{IsConsumer, IsLatency, MayBeForward};
+ghost use Rattle.sqs_model.specs.Valid.{IsConsumer, MayBeForward};
 ghost use Rattle.sqs_redrive.specs.Received.{most_received};
 ghost use Rattle.sim_actor.specs.Lives.{Becomes, Changes, Decides, DecidesAt, DoesNothing, Drawn, EndsFirst, EndsThis, FollowsUp, Lived, lived, EndsAnywhere, begins_or_fails, begins_service, drawn_service, ends_all, ends_as, ends_held, ends_or_fails, in_service, Lives};
 
@@ -17,8 +18,8 @@ use crate::replies::FollowUp;
 use sim_clock::Refusal;
 use sim_draw::Draws;
 use sqs_message::{MessageId, Receipt, ReceiptHandle};
-use sqs_model::{Act, ConsumerSettings, Forwarding, MOST_COUNT, Serving};
-use sqs_redrive::{Batch, Got, Latency, Load, Outbound};
+use sqs_model::{Act, ConsumerSettings, Forwarding, MOST_COUNT, Outbounds, Serving};
+use sqs_redrive::{Batch, Got};
 
 // The timeout in seconds that follows a failed service: the entry of the receive, or else the last.
 fn backoff_at(timeouts: &[u64], count: u64) -> u64
@@ -170,70 +171,31 @@ impl Life {
         }
     }
 
-    // Forwards the message that it served.
-    fn forward(
-        &mut self,
-        home: u32,
-        now: u64,
-        got: Got,
-        forwarding: Forwarding,
-    ) -> Result<Act, Refusal>
-        requires moment { now ≤ most_count }
-        requires latency { IsLatency forwarding.latency }
-        ensures decision { DecidesAt home result self.old self.new (λ a. the_serves a now got
-            (Some forwarding)) }
-        ensures framed { self.new.number ≡ self.old.number }
-    {
-        let varies = forwarding.latency.least < forwarding.latency.greatest;
-        if self.sent == MOST_COUNT || (varies && self.draws.taken() == MOST_COUNT) {
-            return Err(Refusal::CountLimit);
-        }
-        let Latency { least, greatest } = forwarding.latency;
-        let latency = self.draws.between(least, greatest);
-        let outbound = Outbound {
-            at: now + latency,
-            sender: self.number,
-            number: self.sent,
-            from: home,
-            to: forwarding.to,
-            load: Load::Forward {
-                id: got.id,
-                body: got.body,
-                group: got.group,
-            },
-        };
-        self.sent += 1;
-        Ok(Act::Serve {
-            id: got.id,
-            receipt: got.receipt,
-            failed: false,
-            forward: Some(outbound),
-        })
-    }
-
     // Ends a service well.
     fn serve(
         &mut self,
         home: u32,
         now: u64,
         got: Got,
-        forwarding: Option<Forwarding>,
+        forwarding: Option<&Forwarding>,
     ) -> Result<Act, Refusal>
         requires moment { now ≤ most_count }
-        requires latency { MayBeForward forwarding }
+        requires forwarding { MayBeForward (option_copied forwarding) }
         ensures decision { DecidesAt home result self.old self.new
-            (λ a. the_serves a now got forwarding) }
+            (λ a. the_serves a now got (option_copied forwarding.entry)) }
         ensures framed { self.new.number ≡ self.old.number }
     {
-        match forwarding {
-            None => Ok(Act::Serve {
-                id: got.id,
-                receipt: got.receipt,
-                failed: false,
-                forward: None,
-            }),
-            Some(forwarding) => self.forward(home, now, got, forwarding),
-        }
+        let (id, receipt) = (got.id, got.receipt);
+        let forwards = match forwarding {
+            None => Outbounds::none(),
+            Some(forwarding) => self.forward(home, now, got, forwarding)?,
+        };
+        Ok(Act::Serve {
+            id,
+            receipt,
+            failed: false,
+            forwards,
+        })
     }
 
     // A message that was served is forwarded and then deleted.
@@ -251,7 +213,7 @@ impl Life {
         ensures framed { self.new.number ≡ self.old.number }
     {
         self.last_act = LastAct::Served(got.receipt);
-        self.serve(home, now, got, consumer.forward)
+        self.serve(home, now, got, consumer.forward.as_ref())
     }
 
     // The first of the messages of a failed service gets another visibility timeout, in seconds,
@@ -290,7 +252,7 @@ impl Life {
             id,
             receipt,
             failed: true,
-            forward: None,
+            forwards: Outbounds::none(),
         }
     }
 
@@ -316,7 +278,7 @@ impl Life {
                 id,
                 receipt,
                 failed: false,
-                forward: None,
+                forwards: Outbounds::none(),
             });
         }
         match self.holding.take_done() {
@@ -367,7 +329,7 @@ impl Life {
                 id,
                 receipt,
                 failed: false,
-                forward: None,
+                forwards: Outbounds::none(),
             });
         }
         self.forward_held(consumer, home, now)

@@ -52,8 +52,8 @@ impl Core {
                 id,
                 receipt,
                 failed,
-                forward,
-            } => self.serve(handling, id, receipt, failed, forward),
+                forwards,
+            } => self.serve(handling, id, receipt, failed, forwards),
             Act::Nothing => return Ok(None),
         };
         reply_to(done)

@@ -65,6 +65,6 @@ returns c a e f =
       | in-Serve w ↦
           rw (w.self-is, w.handling-is, w.done-is)
           (subst (λ (x : Act). IsDone w.serve-done.result c.args.handling.now w.serve-done.new.handling w.serve-done.new.self (turn_by x (act_made key a core x))) (sym w.in-Serve.is)
-          (w.serve-done.ensures a e, serve_done_is key a core w.in-Serve.id w.in-Serve.receipt w.in-Serve.failed w.in-Serve.forward))
+          (w.serve-done.ensures a e, serve_done_is key a core w.in-Serve.id w.in-Serve.receipt w.in-Serve.failed w.in-Serve.forwards))
     ] in
     rw c.reply_to.ensures (takes c.match-act.done c.args.handling.now c.match-act.handling c.match-act.self (turn_by c.args.act (act_made key a core c.args.act)) done)
