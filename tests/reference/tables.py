@@ -163,6 +163,26 @@ def weighted_groups(value: Any, place: str) -> list[tuple[str, int]]:
     return pairs
 
 
+def one_or_more(type_of: Type[X], most: int) -> Type[list[X]]:
+    """A value, or a list of at most so many, and at least one."""
+    def read(value: Any, place: str) -> list[X]:
+        if type(value) is not list:
+            return [type_of(value, place)]
+        return [type_of(item, at) for item, at in items_in(value, place, 1, most)]
+    return read
+
+
+def one_or_each(type_of: Type[X], count: int) -> Type[list[X]]:
+    """A value for all of so many, or a list with one for each."""
+    def read(value: Any, place: str) -> list[X]:
+        if type(value) is not list:
+            return [type_of(value, place)] * count
+        if len(value) != count:
+            raise Fault(14, place)
+        return [type_of(item, f"{place}[{number}]") for number, item in enumerate(value)]
+    return read
+
+
 def backoffs(value: Any, place: str) -> list[int]:
     return [integer(0, 43_200)(item, at) for item, at in items_in(value, place, 1, 12)]
 
