@@ -293,7 +293,7 @@ class VersionThree(unittest.TestCase):
                 text = BETWEEN.sub(lambda it: f"{it[1]}{[int(it[2])] * (it[1].count('], [') + 1)}\n", text)
                 changed += text != source.decode("utf-8")
                 self.assertEqual(first_difference(wanted, referred(text.encode("utf-8"), 3)), "")
-        self.assertGreater(changed, 10)
+        self.assertGreater(changed, 5)
 
     def test_a_batch_of_one_fails_as_a_whole_or_each(self):
         for seed, source, _ in random_texts("version-3"):
