@@ -294,7 +294,7 @@ const itemText = fault => `${whatIsHere(fault)} is ${fault.node ? shown(tomlOf(f
 function itemOutOfRange(fault) {
   const { found } = fault;
   const range = found?.items
-    ? rangeText({ ...found, kind: NUMBER, low: found.items[0], high: found.items[1] }).trim()
+    ? rangeText({ ...found, kind: NUMBER, low: found.items[0], high: found.items[1], default: null }).trim()
     : RULES.rules[found?.kind ?? ''] ?? '';
   return `${itemText(fault)}. ${range}`;
 }

@@ -297,7 +297,7 @@ name = "{name}"
 {f'dead_letter = "{dead}"' if dead else ''}
 """ for name, dead in (("a", "dead"), ("dead", ""), ("b", "again"), ("again", ""), ("c", "next"), ("next", "dead"),
                        ("d", "moved"), ("moved", ""), ("e", "asked"), ("asked", ""), ("f", "told"), ("told", ""),
-                       ("g", "filed"), ("filed", "")))
+                       ("g", "filed"), ("filed", ""), ("h", "sent"), ("sent", "")))
         actors = """[[actor]]
 kind = "producer"
 queue = "again"
@@ -307,7 +307,7 @@ queue = "dead"
 [[actor]]
 kind = "consumer"
 queue = "a"
-forward = "next"
+forward = ["next", "sent"]
 [[actor]]
 kind = "script"
 queue = "asked"
@@ -333,7 +333,8 @@ to = "moved"
         told = self.asked(("scenario", "network"), """
             const { nodes, edges } = networkOf(new Scenario(values[0]));
             return [nodes.map(it => [it.id, it.kind, calledOf(it)]),
-              edges.map(({ from, to, kind, flow }) => [from, to, kind, flow.queue, flow.agents.join(), flow.row])];""",
+              edges.map(({ from, to, kind, flow }) => [from, to, kind, flow.queue, flow.agents.join(), flow.row]
+                .concat(flow.share ?? []))];""",
                           """version = 3
 [[queue]]
 name = "a"
@@ -359,6 +360,11 @@ queue = "a"
 forward = "b"
 copies = 2
 [[actor]]
+name = "topic"
+kind = "consumer"
+queue = "d"
+forward = ["a", "none", "b", "a"]
+[[actor]]
 name = "lost"
 kind = "consumer"
 queue = "none"
@@ -371,11 +377,14 @@ queue = "d"
 """)
         self.assertEqual(told, [
             [["a", "queue", "a"], ["d", "dead", "d"], ["b", "queue", "b"], ["producer a ", "producer", "p"],
-             ["consumer a b", "consumer", "w × 3"], ["task t", "task", "t"]],
+             ["consumer a b", "consumer", "w × 3"], ["consumer d a none b a", "consumer", "topic"], ["task t", "task", "t"]],
             [["a", "d", "dead", "a", "a", "redrive,out"], ["b", "b", "dead", "b", "b", "redrive,out"],
              ["producer a ", "a", "send", "a", "p", "send,new"],
              ["a", "consumer a b", "receive", "a", "w-1,w-2-1,w-2-2", "receive,ok"],
-             ["consumer a b", "b", "forward", "a", "w-1,w-2-1,w-2-2", "forward,out"],
+             ["consumer a b", "b", "forward", "a", "w-1,w-2-1,w-2-2", "forward,out", 1],
+             ["d", "consumer d a none b a", "receive", "d", "topic", "receive,ok"],
+             ["consumer d a none b a", "a", "forward", "d", "topic", "forward,out", 0.5],
+             ["consumer d a none b a", "b", "forward", "d", "topic", "forward,out", 0.25],
              ["d", "task t", "move", "d", "t", "move,out"], ["task t", "a", "move", "d", "t", "move,out"]]])
 
     def test_numbers_at_moments(self) -> None:
