@@ -106,6 +106,18 @@ class ByHand(ToolCase):
                 self.assertEqual(doors.ages_of("b"), {2_000: 1, 2_999: 1})
                 self.assertEqual(doors.columns("b")["door_age_max"], None if number else 2_999)
 
+    def test_forwards_of_one_message(self) -> None:
+        """It goes to b twice and to c, where it comes after other times: both know when it was first sent."""
+        rows = ["0,a,shop,send,new,m-0-0,,x", "2,a,w,receive,ok,m-0-0,r-0-0-1,o-0-0",
+                *(f"9,a,w,forward,out,m-0-0,,{to}" for to in "bcb"), "9,a,w,delete,deleted,m-0-0,r-0-0-1,9"]
+        for queue, site, message, at in (("c", 2, 0, 30), ("b", 1, 0, 50), ("b", 1, 1, 80)):
+            rows += [f"{at},{queue},w,arrive,new,m-{site}-{message},,o-{site}-{message}",
+                     f"{at},{queue},v,receive,ok,m-{site}-{message},r-{site}-{message}-1,o-{site}-{message}",
+                     f"{at + 10},{queue},v,delete,deleted,m-{site}-{message},r-{site}-{message}-1,10"]
+        doors = doors_of(HEADER + "\n".join([*rows, ""]))
+        self.assertEqual([doors.open_of(queue) for queue in "bc"], [(0, []), (0, [])])
+        self.assertEqual([doors.ages_of(queue) for queue in "bc"], [{60: 1, 90: 1}, {40: 1}])
+
     def test_a_forward_that_comes_as_a_repeat(self) -> None:
         """The second of three is a repeat in b, so the third is that of 9 ms, which is deleted 2,991 ms later."""
         text = two_forwards(100, 300, 200, 500)
