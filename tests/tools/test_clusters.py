@@ -15,7 +15,7 @@ from types import SimpleNamespace
 from typing import NoReturn
 
 from tool import TOOLS, ToolCase, needs_program, wait_for
-from texts import consumer, producer, queue_of, scenario_of, table
+from scenario_texts import consumer, producer, queue_of, scenario_of, table
 from rehearse_tools import clusters
 from rehearse_tools.console import Fault
 from rehearse_tools.jobs import scripts_of

@@ -12,7 +12,7 @@ from typing import Any
 
 from test_runs import OVERLOADED, random_scenario
 from tool import HEADER, PROGRAM, ToolCase, ended, needs_program, printed
-from texts import consumer, producer, queue_of, scenario_of, script, task
+from scenario_texts import consumer, producer, queue_of, scenario_of, script, task
 from rehearse_tools.figures import COLUMNS as OF_FIGURES
 from rehearse_tools.figures import Figures
 from rehearse_tools.requirements import Requirement

@@ -9,7 +9,7 @@ import random
 import unittest
 
 from tool import HEADER, ToolCase, needs_program, printed, text_at
-from texts import between, consumer, producer, queue_of, scenario_of, script, task
+from scenario_texts import between, consumer, producer, queue_of, scenario_of, script, task
 from rehearse_tools.doors import Doors
 from rehearse_tools.logs import Rows
 from rehearse_tools.replay import ignored

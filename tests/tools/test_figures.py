@@ -13,7 +13,7 @@ import unittest
 from test_runs import random_scenario
 from test_summary import LOG, PARTS
 from tool import PROGRAM, ROOT, ToolCase, needs_program, printed, text_at
-from texts import consumer, queue_of, scenario_of, script
+from scenario_texts import consumer, queue_of, scenario_of, script
 from rehearse_tools import runs
 from rehearse_tools.figures import AGES, COLUMNS, OF_QUEUE, Figures
 from rehearse_tools.scenarios import consumers_of, names_of, parsed

@@ -15,7 +15,7 @@ from rehearse_tools import explain
 from rehearse_tools.console import read_text
 from rehearse_tools.programs import TOP
 from stored_cases import REFUSED, stored
-from texts import consumer, producer, queue_of, scenario_of, table, task
+from scenario_texts import consumer, producer, queue_of, scenario_of, table, task
 
 PAGE = ("scenario", "faults", "side", "link")
 SEEDS = ("edits", "seeds")

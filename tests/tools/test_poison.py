@@ -18,7 +18,7 @@ import unittest
 from collections.abc import Callable, Iterator
 
 from tool import PROGRAM, needs_program
-from texts import consumer, producer, queue_of, scenario_of
+from scenario_texts import consumer, producer, queue_of, scenario_of
 
 SEEDS = range(1, 31)
 COUNT, EVERY, SERVERS, BATCH, TIMEOUT, RECEIVES = 18_000, 1_000, 8, 10, 60_000, 3

@@ -12,7 +12,7 @@ import unittest
 from html.parser import HTMLParser
 
 from tool import HEADERS, LIMIT, PROGRAM, ROOT, TOOLS, ToolCase, module_of, needs_program, row_of, text_at
-from texts import producer, queue_of, scenario_of
+from scenario_texts import producer, queue_of, scenario_of
 from rehearse_tools.console import Fault, check_library
 from rehearse_tools.histories import History
 

@@ -15,7 +15,7 @@ from typing import Any
 
 from test_summary import LOG, PARTS, WAYS, cases
 from tool import PROGRAM, ToolCase, needs_program, printed, text_at
-from texts import consumer, producer, queue_of, scenario_of, script, task
+from scenario_texts import consumer, producer, queue_of, scenario_of, script, task
 from rehearse_tools import runs
 from rehearse_tools.requirements import Requirement
 from rehearse_tools.runs import COLUMNS, Ages

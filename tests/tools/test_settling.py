@@ -3,7 +3,7 @@ import io
 import unittest
 
 from tool import ToolCase, needs_program, text_at
-from texts import producer, queue_of, scenario_of
+from scenario_texts import producer, queue_of, scenario_of
 from rehearse_tools import settling
 
 # A message a second for 100 minutes, which nobody receives and which expires: the depth grows until the retention

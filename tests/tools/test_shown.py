@@ -9,7 +9,7 @@ from typing import Any
 from unittest import mock
 
 from tool import ToolCase, needs_program
-from texts import consumer, producer, queue_of, scenario_of, script
+from scenario_texts import consumer, producer, queue_of, scenario_of, script
 
 from rehearse_tools import sweep, variants
 

@@ -10,7 +10,7 @@ import sys
 import unittest
 
 from tool import LIMIT, PROGRAM, REPORT_HEADER, ROOT, TOOLS, ToolCase, needs_program, read_whole, text_at, wait_for
-from texts import consumer, producer, queue_of, scenario_of, table
+from scenario_texts import consumer, producer, queue_of, scenario_of, table
 from rehearse_tools.console import toml_of
 from rehearse_tools.variants import values_of
 

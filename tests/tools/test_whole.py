@@ -5,7 +5,7 @@ import subprocess
 import unittest
 
 from tool import HEADER, PROGRAM, ToolCase, ended, needs_program, open_end
-from texts import producer, queue_of, scenario_of
+from scenario_texts import producer, queue_of, scenario_of
 
 # Two messages come into q, of which one is deleted and the other one is left; a poll of p is empty.
 LOG = HEADER + """0,q,shop,send,new,m-0-0,,x

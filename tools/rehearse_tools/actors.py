@@ -9,8 +9,10 @@ import dataclasses
 import math
 import re
 from collections.abc import Iterable
+from typing import Any
 
 from .queues import NAME, NAME_MOST, Queue
+from .scenarios import text_of_table
 
 # How far the messages of a skeleton's producer are apart on average, in milliseconds, and how many it may send.
 GAP, SENDS_MOST = 1_000, 1_000_000
@@ -22,29 +24,6 @@ BATCH_MOST, CONSUMERS, CONSUMERS_MOST = 10, 5, 100
 FORWARDS_MOST = 10
 # Messages of the depth that one producer sends, one each millisecond, while there are not too many producers.
 DEPTH_OF_PRODUCER, DEPTH_PRODUCERS_MOST = 1_000, 100
-PRODUCER = """[[actor]]
-name = "{name}"
-kind = "producer"
-queue = "{queue}"
-count = {count}
-gap_min_ms = {least}
-gap_max_ms = {most}
-body = "message {{n}}"
-"""
-CONSUMER = """[[actor]]
-name = "{name}"
-kind = "consumer"
-queue = "{queue}"
-batch = {batch}
-wait_s = {wait}
-service_min_ms = {times[0]}
-service_max_ms = {times[1]}
-idle_ms = 1
-"""
-FORWARD = """forward = [{queues}]
-latency_min_ms = {latency}
-latency_max_ms = {latency}
-"""
 
 
 @dataclasses.dataclass
@@ -188,13 +167,17 @@ class Actors:
         self.text += "\n" + commented([title, *notes])
         self.notes += [(place, plain(note)) for note in notes]
 
-    def producer(self, queue: Queue, name: str, count: int, gaps: tuple[int, int] = (100, 1_900)) -> None:
-        self.text += PRODUCER.format(name=name, queue=queue.name, count=count, least=gaps[0], most=gaps[1])
-        self.text += "groups = 10\n" if queue.fifo else ""
+    def producer(self, queue: Queue, name: str, count: int, gaps: tuple[int, int] = (100, 1_900), **more: Any) -> None:
+        more = {"groups": 10} if queue.fifo else more
+        self.text += text_of_table("actor", {
+            "name": name, "kind": "producer", "queue": queue.name, "count": count, "gap_min_ms": gaps[0],
+            "gap_max_ms": gaps[1], "body": "message {n}", **more})
 
-    def consumer(self, queue: Queue, name: str, batch: int, times: tuple[int, int] = (100, 1_000)) -> None:
+    def consumer(self, queue: Queue, name: str, batch: int, times: tuple[int, int] = (100, 1_000), **more: Any) -> None:
         self.received.add(queue.name)
-        self.text += CONSUMER.format(name=name, queue=queue.name, batch=batch, wait=queue.wait or WAIT, times=times)
+        self.text += text_of_table("actor", {
+            "name": name, "kind": "consumer", "queue": queue.name, "batch": batch, "wait_s": queue.wait or WAIT,
+            "service_min_ms": times[0], "service_max_ms": times[1], "idle_ms": 1, **more})
 
     def skeleton_producer(self, queue: Queue) -> None:
         self.begin(f"SKELETON: who sends to {queue.name}", queue.name, [])
@@ -207,11 +190,11 @@ class Actors:
     def of_mapping(self, queue: Queue, mapping: Mapping) -> None:
         self.begin(f"SKELETON: the function {mapping.function} takes messages of {queue.name}, by {mapping.place}",
                    mapping.place, mapping.told(self.is_preview))
+        fails: dict[str, Any] = {"batch_fails": "each" if mapping.is_partial else "whole"} if self.is_preview else {}
         names = [f"{mapping.function[:NAME_MOST - 8]}-{number}" for number in range(1, mapping.consumers() + 1)]
         for place, name in enumerate(names):
             self.text += "\n" if place else ""
-            self.consumer(queue, name_apart(name, "", self.taken), max(1, min(mapping.batch, BATCH_MOST)))
-            self.text += f'batch_fails = "{"each" if mapping.is_partial else "whole"}"\n' if self.is_preview else ""
+            self.consumer(queue, name_apart(name, "", self.taken), max(1, min(mapping.batch, BATCH_MOST)), **fails)
 
     def of_subscription(self, queue: Queue, subscription: Subscription, others: Iterable[str]) -> None:
         self.begin(f"SKELETON: what the topic {subscription.topic} sends to {queue.name}, by {subscription.place}",
@@ -225,21 +208,21 @@ class Actors:
                    f"{', '.join(dict.fromkeys(found.place for found in topic.subscriptions))}", topic.queue.name,
                    [f"DEFAULT: latency_min_ms and latency_max_ms of {topic.latency}, how long that takes, as nothing "
                     f"tells it"])
-        self.consumer(topic.queue, name_apart(topic.queue.name, "-sends", self.taken), BATCH_MOST, (1, 1))
-        self.text += FORWARD.format(queues=", ".join(f'"{name}"' for name in queues), latency=topic.latency)
+        self.consumer(topic.queue, name_apart(topic.queue.name, "-sends", self.taken), BATCH_MOST, (1, 1), forward=queues,
+                      latency_min_ms=topic.latency, latency_max_ms=topic.latency)
 
     def depth(self, queue: Queue, attribute: str, count: int) -> None:
         """Producers that send the messages which are there in the beginning, within the first moments."""
         many = min(math.ceil(count / DEPTH_OF_PRODUCER), DEPTH_PRODUCERS_MOST)
         counts = [count // many + (place < count % many) for place in range(many)]
         is_delayed = attribute.endswith("Delayed")
+        more = {} if is_delayed else {"delay_s": 0}
         self.begin(f"DEPTH: the {count} messages of {attribute}, sent in the first {counts[0]} ms, as the file does "
                    f"not tell their ages", queue.name, [])
         for place, part in enumerate(counts):
             self.text += "\n" if place else ""
             self.producer(queue, name_apart(queue.name, f"-depth-{'delayed-' if is_delayed else ''}{place + 1}",
-                                            self.taken), part, (1, 1))
-            self.text += "delay_s = 0\n" if not is_delayed and not queue.fifo else ""
+                                            self.taken), part, (1, 1), **more)
 
     def of_wiring(self, queues: list[Queue], wiring: Wiring) -> None:
         """For each queue the senders and receivers that the file names, else skeletons if it takes no dead letters."""

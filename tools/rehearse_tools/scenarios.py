@@ -111,6 +111,11 @@ def lines_of_table(table: Mapping[str, Any]) -> list[str]:
     return [f"{text_of_key(key)} = {text_of_value(value)}" for key, value in table.items()]
 
 
+def text_of_table(of: str, keys: Mapping[str, Any]) -> str:
+    """A table of a list of a scenario."""
+    return "\n".join([f"[[{of}]]", *lines_of_table(keys), ""])
+
+
 def written(scenario: Mapping[str, Any]) -> str:
     """The text of a scenario: its top keys, then a table for each item of its lists."""
     is_list = {key: isinstance(value, list) and value != [] and all(isinstance(item, dict) for item in value)

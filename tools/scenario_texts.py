@@ -1,4 +1,4 @@
-"""The texts of scenarios by a call for each table. The tests import it; it is not a command.
+"""The texts of scenarios by a call for each table, for tools/bench and the tests. It is not a command.
 
 A time is one number, or the two bounds between which it is drawn.
 """
@@ -6,14 +6,14 @@ from __future__ import annotations
 
 from typing import Union
 
-from rehearse_tools.scenarios import lines_of_table
+from rehearse_tools.scenarios import lines_of_table, text_of_table
 from rehearse_tools.scripts import HEADER
 
-Time = Union[int, tuple[int, int]]
+Time = Union[int, "tuple[int, int]"]
 
 
 def table(of: str, **keys: object) -> str:
-    return "\n".join([f"[[{of}]]", *lines_of_table(keys), ""])
+    return text_of_table(of, keys)
 
 
 def between(what: str, time: Time) -> dict[str, int]:
