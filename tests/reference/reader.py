@@ -8,8 +8,8 @@ from faults import Fault
 from scripts import ScriptFault, calls_of
 from settings import (ActorSettings, Bounds, ByQuantiles, Call, ConsumerSettings, Forwarding, Latency, Outage, Policy,
                       ProducerSettings, QueueSettings, Role, Scenario, ScriptSettings, TaskSettings, Time)
-from tables import (MOST_DAY, MOST_TIME, Table, backoffs, boolean, document_of, integer, one_of, one_or_each,
-                    one_or_more, quantiles, sized_text, stretches, tables, text, weighted_groups)
+from tables import (MOST_DAY, MOST_TIME, Table, boolean, document_of, integer, list_of, one_of, one_or_each, one_or_more,
+                    quantiles, sized_text, stretch, tables, text, weighted_group)
 
 MOST_AGENTS, MOST_QUEUES, MOST_FORWARDS, LONGEST_NAME = 10_000, 1_000, 10, 80
 AGENT_NAME = re.compile(r"[A-Za-z0-9_-]{1,80}")
@@ -211,7 +211,7 @@ class Reader:
         elif groups_key == "groups":
             settings.groups = table.required("groups", integer(1, 1_000))
         else:
-            settings.key_groups = table.required("key_groups", weighted_groups)
+            settings.key_groups = table.required("key_groups", list_of(weighted_group, 1, 100))
         if is_fifo:
             settings.has_ids = table.optional("ids", boolean, True)
         settings.stop = self.stop(table, start)
@@ -248,7 +248,7 @@ class Reader:
         consumer.fails_on = table.maybe("fails_on", sized_text(1, 128))
         consumer.outages = outages(table)
         consumer.is_whole = table.optional("batch_fails", one_of("each", "whole"), "each") == "whole"
-        consumer.backoff_s = table.optional("backoff_s", backoffs, [])
+        consumer.backoff_s = table.optional("backoff_s", list_of(integer(0, 43_200), 1, 12), [])
         consumer.has_jitter = table.optional("backoff_jitter", one_of("none", "full"), "none") == "full"
         seconds = table.maybe("heartbeat_s", integer(1, 43_200))
         consumer.heartbeat = seconds and 1000 * seconds
@@ -315,7 +315,7 @@ def time_of_each(table: Table) -> int | None:
 def outages(table: Table) -> list[Outage]:
     """The outages of a consumer: by a list, with one chance of them all or one of each, or by the two ends of one."""
     if table.has("fails_between_ms"):
-        times = table.required("fails_between_ms", stretches)
+        times = table.required("fails_between_ms", list_of(stretch, 1, 32))
         chances = table.optional("fails_permille", one_or_each(integer(0, 1_000), len(times)), [1_000] * len(times))
         return [Outage(time, chance) for time, chance in zip(times, chances)]
     if not table.has("fails_from_ms"):
