@@ -144,7 +144,7 @@ ages s =
     record {
       Holds = Says s;
       Meets = λ rows r. Unit {0};
-      moves = λ rows key q r p by m k h. (tt, does_tell s key rows q r p k m.at_key h m.does);
+      moves = λ rows key q r p by m g k h. (tt, does_tell s key rows q r p k m.at_key h m.does);
       apart = apart s;
       opens = λ n settings e. record { settings = e; told = λ i m f. cc; fresh = λ i l. refl };
     }
@@ -152,7 +152,7 @@ ages s =
 -- the law
 pub ages_are_told : (s : Scenario) (x : Run) → IsRunOf s x → Ages s x.rows
 ages_are_told s x is =
-    let each : EachRow x.rows (Tells s) = every_row_by s (ages s) (Tells s) (λ rows key q r p d k h j. told_by s key rows q r p d.at_key d.at_site h d.does) x is in
+    let each : EachRow x.rows (Tells s) = every_row_by s (ages s) (Tells s) (λ rows key q r p d g k h j. told_by s key rows q r p d.at_key d.at_site h d.does) x is in
     record {
       told = λ before r after e m i t at y. (each before r after e m i at y).age t;
       expiry = λ before r after e m i t at y. (each before r after e m i at y).over t;

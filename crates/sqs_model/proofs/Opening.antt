@@ -34,7 +34,7 @@ ascends_filter number p n (x ∷ xs) a =
       | false ↦ ascends_lower number n (number x + 1) (filter p xs) (omega arith) (ascends_filter number p (number x + 1) xs a.1)
     ]
 
-ascends_map : {A B : Type 0} (number : B → ℕ) (f : A → B) (n : ℕ) (xs : List A) → Ascends (λ x. number (f x)) n xs → Ascends number n (map f xs)
+pub ascends_map : {A B : Type 0} (number : B → ℕ) (f : A → B) (n : ℕ) (xs : List A) → Ascends (λ x. number (f x)) n xs → Ascends number n (map f xs)
 ascends_map number f n [] a = tt
 ascends_map number f n (x ∷ xs) a = (a.0, ascends_map number f (number (f x) + 1) xs a.1)
 
