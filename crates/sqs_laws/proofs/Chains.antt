@@ -22,9 +22,9 @@ use Rattle.sqs_model.specs.Site.{Core, Effect, Site, actor_numbered, is_actor, s
 use Rattle.sqs_model.specs.Step.{arrival_done, handle_expiry, handle_step, handled, is_arrival, release_done}
 use Rattle.sqs_model.proofs.CallWalk.{CallLaw, DueLaw, IsNameless, IsTold, handled_goes}
 use Rattle.sqs_model.proofs.Counts.{all_changed, find_all}
-use Rattle.sqs_model.proofs.Decisions.{next_decides}
+use Rattle.sqs_model.proofs.TurnMoves.{polls_wake}
 use Rattle.sqs_model.proofs.SiteAccounts.{IsDueThere, IsFound}
-use Rattle.sqs_laws.proofs.Gives.{AreOfScenario, Fits, IsAwake, MayGive, due_awake, standing, stands, turn_gives, turned}
+use Rattle.sqs_laws.proofs.Gives.{AreOfScenario, Fits, IsAwake, MayGive, Wakes, due_awake, standing, stands, turn_gives}
 use Rattle.sqs_laws.proofs.Giving.{AreKnown, IsGiven, most_given}
 use Rattle.sqs_laws.proofs.Holding.{HearsOfKnown, IsInformed, ServesKnown, informed_later, known_later, next_acts}
 use Rattle.sqs_laws.proofs.Numbers.{IsOver}
@@ -103,7 +103,7 @@ module _ (u : Scenario) (past : List Row) (key : Key) (start : Queue) (fine : Is
   told_known c n (told_by.Got gots) h = h
   told_known c n w h = tt
 
-  told_awake : (c : Core) (n : ℕ) (a : Actor) (w : Answer) → actor_numbered n c ≡ Some a → IsTold Hears (IsAwake key) c n w → w ≡ told_by.Wake → a.wakes ≡ key.number
+  told_awake : (c : Core) (n : ℕ) (a : Actor) (w : Answer) → actor_numbered n c ≡ Some a → IsTold Hears (IsAwake key) c n w → w ≡ told_by.Wake → Wakes key a
   told_awake c n a told_by.Wake e h f = h a e
   told_awake c n a w e h f = cc
 
@@ -117,17 +117,17 @@ module _ (u : Scenario) (past : List Row) (key : Key) (start : Queue) (fine : Is
       let one = find_all (is_actor n) (IsInformed c.queue.site c.queue.arrivals) c.actors a h.actors e in
       let x = next_acts c.queue.site c.queue.arrivals key.at a w one (told_known c n w t) in
       let b : Actor = (next a key.at w).1 in
-      let d = next_decides key.at a w in (
-        record { chain = h.chain; numbers = turned u c.actors n a b e d.number d.settings h.numbers; actors = all_changed (is_actor b.number) (IsInformed c.queue.site c.queue.arrivals) (λ _. b) (λ _ _. x.informed) c.actors h.actors },
-        (x.informed, standing u c.actors n a b e d.number d.settings h.numbers),
-        (x.serves, turn_gives u key c.actors n a b w e d.number d.settings (told_awake c n a w e t) h.numbers),
+      let f : Fits u b = standing u c.actors key n a w e h.numbers in (
+        record { chain = h.chain; numbers = stands u c.actors b f h.numbers; actors = all_changed (is_actor b.number) (IsInformed c.queue.site c.queue.arrivals) (λ _. b) (λ _ _. x.informed) c.actors h.actors },
+        (x.informed, f),
+        (x.serves, turn_gives u c.actors key n a w e h.numbers (told_awake c n a w e t)),
       )
 
   polling : (rows : List Row) (a : Actor) (c : Core) (max wait : ℕ) (timeout : Option ℕ) → Stands c.queue c.actors a → At rows c → At rows (with_poll key a c max wait timeout)
   polling rows a c max wait timeout (i, f) h =
       let b : Actor = record a { polls = a.polls + 1 } in
       let j : IsInformed c.queue.site c.queue.arrivals b = record { held = i.held; done = i.done; failed = i.failed } in
-      record { chain = h.chain; numbers = stands u c.actors b f h.numbers; actors = all_changed (is_actor b.number) (IsInformed c.queue.site c.queue.arrivals) (λ _. b) (λ _ _. j) c.actors h.actors }
+      record { chain = h.chain; numbers = stands u c.actors b (record { settings = f.settings; wakes = polls_wake a.settings.role a (a.polls + 1) f.wakes }) h.numbers; actors = all_changed (is_actor b.number) (IsInformed c.queue.site c.queue.arrivals) (λ _. b) (λ _ _. j) c.actors h.actors }
 
   -- the law by calls
   abbrev chains : CallLaw key

@@ -28,3 +28,5 @@ pub mod Gives
 pub mod Turns
 pub mod Naming
 pub mod Next
+pub mod Sends
+pub mod Fifo

@@ -27,12 +27,13 @@ use Rattle.sqs_model.specs.Accounts.{is_deleted, is_expired, origin_in}
 use Rattle.sqs_model.specs.Queue.{Entry, Queue, has_number, id_of, in_flight, is_in_flight, is_visible, numbered, same_group, taken_out, with_change}
 use Rattle.sqs_model.specs.Calls.{change, delete, in_flight_until, with_message}
 use Rattle.sqs_model.specs.Receive.{received}
+use Rattle.sqs_model.specs.Progress.{IsSoundRole}
 use Rattle.sqs_model.specs.Return.{leaves, visible_again}
 use Rattle.sqs_model.specs.Scenario.{Scenario}
 use Rattle.sqs_model.proofs.Counts.{all_changed, all_without, ascends_changed, ascends_push, ascends_without}
 use Rattle.sqs_model.proofs.Numbered.{Climbs}
 use Rattle.sqs_model.proofs.SiteAccounts.{IsFound}
-use Rattle.sqs_laws.specs.Groups.{IsByCall, group_given}
+use Rattle.sqs_laws.specs.Groups.{GivesAs, IsByCall}
 use Rattle.sqs_laws.specs.Laws.{is_fifo}
 use Rattle.sqs_laws.specs.Words as words
 
@@ -193,12 +194,12 @@ pub record IsNext (past : List Row) (q : Queue) (r : Row) (n : ℕ) (one : Messa
 -- what a row at a FIFO queue, after some rows, has to do with groups: what was sent has the group that was given, and what is
 -- received is the next of its group
 pub record IsOfGroup (s : Scenario) (past : List Row) (q : Queue) (r : Row) (p : Queue) : Type 0 where
-  pub given : (words.is_send r.kind && words.comes r) ≡ true → is_fifo q.settings.kind ≡ true → (m : Message) → numbered q.arrivals p.records ≡ Some m → (g : List ℕ) → group_given s r ≡ Some g → m.group ≡ Some g
+  pub given : (words.is_send r.kind && words.comes r) ≡ true → is_fifo q.settings.kind ≡ true → (m : Message) → numbered q.arrivals p.records ≡ Some m → All (λ a. IsSoundRole a.role) s.actors → (g : List ℕ) → GivesAs s r.agent r.key g → m.group ≡ Some g
   pub next : words.received r ≡ true → is_fifo q.settings.kind ≡ true → (n : ℕ) (one : Message) → r.message ≡ Some (id_of q n) → numbered n q.records ≡ Some one → IsNext past q r n one
 
 -- a row by which nothing is sent and nothing received has nothing to do with them
 pub of_none : (s : Scenario) (past : List Row) (q : Queue) (r : Row) (p : Queue) → (words.is_send r.kind && words.comes r) ≡ false → words.received r ≡ false → IsOfGroup s past q r p
-of_none s past q r p a b = record { given = λ e f m g h i. absurd (true≢false (sym e ∙ a)); next = λ e f n one g h. absurd (true≢false (sym e ∙ b)) }
+of_none s past q r p a b = record { given = λ e f m h k g i. absurd (true≢false (sym e ∙ a)); next = λ e f n one g h. absurd (true≢false (sym e ∙ b)) }
 
 pub tells_none : (s : Scenario) (past : List Row) (q : Queue) (r : Row) (p : Queue) (x y z : Bool) → Tells r false false x y z → IsOfGroup s past q r p
 tells_none s past q r p x y z t = of_none s past q r p (ap (λ b. words.is_send r.kind && b) t.comes_so ∙ and-false (words.is_send r.kind)) t.received_so

@@ -161,9 +161,9 @@ module _ (u : Scenario) (past : List Row) (key : Key) where
       one_row c (with_queue c (with_message (record c.queue { entries = entries }) m)) _ refl refl refl tt
       (comes (record { one = m; entries = entries; tells = tells _ true false false false false refl refl refl refl refl; message = refl; number = n; fresh = f; rests = r; told = ap (λ x. Some x) g; sent = λ _. d; old = o; after = refl }))
       (record {
-        given = λ e y one i g h.
+        given = λ e y one i s g h.
             let is : m ≡ one = let found : Some m ≡ Some one = sym (pushed_found c.queue.arrivals c.queue.records m n k.given_out) ∙ i in cc in
-            ap (λ (z : Message). z.group) (sym is) ∙ x y g h;
+            ap (λ (z : Message). z.group) (sym is) ∙ x y s g h;
         next = λ e. cc;
       })
 

@@ -1,8 +1,12 @@
 -- The groups that actors give to what they send to FIFO queues.
 use Rattle.std.specs.Fmt.{decimal}
 use Rattle.std.specs.Prelude.{List, None, Option, Some, length, slice_get, ℕ, ◌%◌, ◌-◌, ◌∷◌, ◌≡◌}
+use Rattle.sim_clock.specs.declared.key.Key.{Key}
+use Rattle.sim_engine.specs.Members.{In}
 use Rattle.sqs_message.specs.declared.calls.Call.{Call}
 use Rattle.sqs_message.specs.declared.calls.Call.TheVariants as calls
+use Rattle.sqs_message.specs.declared.calls.ScriptCall.{ScriptCall}
+use Rattle.sqs_message.specs.declared.ids.MessageId.{MessageId}
 use Rattle.sqs_message.specs.declared.row.Row.{Row}
 use Rattle.sqs_model.specs.declared.agents.ActorSettings.{ActorSettings}
 use Rattle.sqs_model.specs.declared.agents.Groups.{Groups}
@@ -10,7 +14,7 @@ use Rattle.sqs_model.specs.declared.agents.Groups.TheVariants.{ByWeight, InTurn}
 use Rattle.sqs_model.specs.declared.agents.Role.{Role}
 use Rattle.sqs_model.specs.declared.agents.Role.TheVariants.{Consumer, Producer, Script}
 use Rattle.sqs_model.specs.Scenario.{Scenario}
-use Rattle.sqs_laws.specs.Words.{EachNaming}
+use Rattle.sqs_laws.specs.Words.{sent_by}
 
 -- the group that a call gives, if it is a send
 abbrev pub group_in : Call → Option (List ℕ)
@@ -23,23 +27,20 @@ group_in_turn None n = None
 group_in_turn (Some (InTurn groups)) n = Some (103 ∷ decimal (n % groups))
 group_in_turn (Some (ByWeight groups)) n = None
 
--- the group that an actor gives at its wake n: a script makes its call n, a producer sends its message n
-abbrev pub group_at_wake : Role → ℕ → Option (List ℕ)
-group_at_wake (Script cs) n = elim (slice_get cs n) as (λ _. Option (List ℕ)) [ None ↦ None | Some c ↦ group_in c.call ]
-group_at_wake (Producer p) n = group_in_turn p.groups n
-group_at_wake (Consumer c) n = None
+-- an actor of a role gives a group to what it sends as it wakes: a script that of its call at this moment, a producer that
+-- of the message whose number is that of the wake
+abbrev pub GivesAt : Role → Key → List ℕ → Type 0
+GivesAt (Script cs) key g = (c : ScriptCall) × In cs c × (c.at ≡ key.at) × (group_in c.call ≡ Some g)
+GivesAt (Producer p) key g = group_in_turn p.groups key.number ≡ Some g
+GivesAt (Consumer c) key g = ⊥
 
--- the group that an agent gives at its wake n, if the settings tell it
-abbrev pub group_of_agent : Scenario → ℕ → ℕ → Option (List ℕ)
-group_of_agent s agent n =
-    elim (slice_get s.actors (agent - length s.queues)) as (λ _. Option (List ℕ)) [
-      | None ↦ None
-      | Some a ↦ group_at_wake a.role n
-    ]
+-- so does the actor of this number
+abbrev pub GivesAs : Scenario → ℕ → Key → List ℕ → Type 0
+GivesAs s agent key g = (a : ActorSettings) × (slice_get s.actors (agent - length s.queues) ≡ Some a) × GivesAt a.role key g
 
--- the group that the actor of a row gave
-abbrev pub group_given : Scenario → Row → Option (List ℕ)
-group_given s r = group_of_agent s r.agent r.key.number
+-- a message was sent to its queue with this group
+abbrev pub WasGiven : Scenario → List Row → MessageId → List ℕ → Type 0
+WasGiven s rows m g = (r : Row) × (sent_by m rows ≡ Some r) × GivesAs s r.agent r.key g
 
 -- whether a message is in flight by the call of a row
 abbrev pub IsByCall : Row → Option Row → Type 0

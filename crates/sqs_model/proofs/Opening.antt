@@ -39,7 +39,7 @@ ascends_map number f n [] a = tt
 ascends_map number f n (x ∷ xs) a = (a.0, ascends_map number f (number (f x) + 1) xs a.1)
 
 -- an actor's first wake
-wakes_first : (s : Scenario) (n : ℕ) (settings : ActorSettings) (r : Role) → settings.role ≡ r → WakesFor r (opening_actor s.seed (n, settings))
+pub wakes_first : (s : Scenario) (n : ℕ) (settings : ActorSettings) (r : Role) → settings.role ≡ r → WakesFor r (opening_actor s.seed (n, settings))
 wakes_first s n settings (Script script) h = rw h refl
 wakes_first s n settings (Producer p) h = tt
 wakes_first s n settings (Consumer c) h = tt
