@@ -1,6 +1,6 @@
 -- The rows of a handling are a chain of single moves.
-use Rattle.std.specs.Prelude.{All, List, None, Option, Some, [], false, ℕ, ◌+◌, ◌++◌, ◌∷◌, ◌≡◌}
-use Rattle.std.proofs.Common.{refl, subst, sym, ◌∙◌}
+use Rattle.std.specs.Prelude.{All, List, None, Option, Result, Some, [], false, find, ℕ, ◌+◌, ◌++◌, ◌∷◌, ◌≡◌}
+use Rattle.std.proofs.Common.{ap, refl, subst, sym, ◌∙◌}
 use Rattle.std.proofs.lemmas.List.{append-nil, append_assoc}
 use Rattle.std.proofs.lemmas.List.Elements.{All-weaker}
 use Rattle.sim_clock.specs.declared.key.Class.TheVariants.{Expiry, Wake}
@@ -8,11 +8,14 @@ use Rattle.sim_clock.specs.declared.key.Key.{Key}
 use Rattle.sqs_message.specs.declared.message.Message.{Message}
 use Rattle.sqs_message.specs.declared.row.Row.{Row}
 use Rattle.sqs_redrive.specs.declared.answers.Got.{Got}
+use Rattle.sim_clock.specs.declared.refusal.Refusal.{Refusal}
+use Rattle.sqs_redrive.specs.declared.answers.Sent.{Sent}
 use Rattle.sqs_model.specs.declared.acts.Act.{Act}
+use Rattle.sqs_model.specs.declared.acts.Act.TheVariants as acts
 use Rattle.sqs_model.specs.declared.acts.Answer.{Answer}
 use Rattle.sqs_model.specs.declared.acts.Answer.TheVariants as told_by
 use Rattle.sqs_model.specs.Actor.{Actor, next}
-use Rattle.sqs_model.specs.Acts.{given, with_poll}
+use Rattle.sqs_model.specs.Acts.{act_made, given, send_made, sends, with_poll}
 use Rattle.sqs_model.specs.Arrive.{arrived}
 use Rattle.sqs_model.specs.Queue.{Queue, numbered}
 use Rattle.sqs_model.specs.Receive.{give_most}
@@ -20,11 +23,10 @@ use Rattle.sqs_model.specs.Return.{released}
 use Rattle.sqs_model.specs.Scenario.{Scenario}
 use Rattle.sqs_model.specs.Site.{Core, Effect, Site, actor_numbered, is_actor, says, with_actor}
 use Rattle.sqs_model.specs.Step.{arrival_done, handle_expiry, handle_step, handled, is_arrival, release_done}
-use Rattle.sqs_model.proofs.CallWalk.{CallLaw, DueLaw, IsNameless, IsTold, handled_goes}
+use Rattle.sqs_model.proofs.CallWalk.{IsDone, CallLaw, DueLaw, IsNameless, IsTold, handled_goes}
 use Rattle.sqs_model.proofs.Counts.{all_changed, find_all}
-use Rattle.sqs_model.proofs.TurnMoves.{polls_wake}
 use Rattle.sqs_model.proofs.SiteAccounts.{IsDueThere, IsFound}
-use Rattle.sqs_laws.proofs.Gives.{AreOfScenario, Fits, IsAwake, MayGive, Wakes, due_awake, standing, stands, turn_gives}
+use Rattle.sqs_laws.proofs.Gives.{AreOfScenario, Fits, HasActed, HasSent, IsAwake, IsNoProducer, MayGive, other_acted, polled_fits, standing, stands, turn_gives, turned_found}
 use Rattle.sqs_laws.proofs.Giving.{AreKnown, IsGiven, most_given}
 use Rattle.sqs_laws.proofs.Holding.{HearsOfKnown, IsInformed, ServesKnown, informed_later, known_later, next_acts}
 use Rattle.sqs_laws.proofs.Numbers.{IsOver}
@@ -97,37 +99,64 @@ module _ (u : Scenario) (past : List Row) (key : Key) (start : Queue) (fine : Is
 
   -- what holds of an actor after its turn
   abbrev pub Stands : Queue → List Actor → Actor → Type 0
-  Stands q actors a = IsInformed q.site q.arrivals a × Fits u a
+  Stands q actors a = IsInformed q.site q.arrivals a × Fits u a × (find (is_actor a.number) actors ≡ Some a)
 
-  told_known : (c : Core) (n : ℕ) (w : Answer) → IsTold Hears (IsAwake key) c n w → HearsOfKnown c.queue.site c.queue.arrivals w
+  told_known : (c : Core) (n : ℕ) (w : Answer) → IsTold Hears (IsAwake key) (HasActed u key) c n w → HearsOfKnown c.queue.site c.queue.arrivals w
   told_known c n (told_by.Got gots) h = h
   told_known c n w h = tt
 
-  told_awake : (c : Core) (n : ℕ) (a : Actor) (w : Answer) → actor_numbered n c ≡ Some a → IsTold Hears (IsAwake key) c n w → w ≡ told_by.Wake → Wakes key a
+  told_awake : (c : Core) (n : ℕ) (a : Actor) (w : Answer) → actor_numbered n c ≡ Some a → IsTold Hears (IsAwake key) (HasActed u key) c n w → w ≡ told_by.Wake → a.wake ≡ Some key.at
   told_awake c n a told_by.Wake e h f = h a e
   told_awake c n a w e h f = cc
 
+  told_acted : (c : Core) (n : ℕ) (a : Actor) (w : Answer) → actor_numbered n c ≡ Some a → IsTold Hears (IsAwake key) (HasActed u key) c n w → w ≡ told_by.Other → HasSent u.seed a.settings.role key.at a
+  told_acted c n a told_by.Other e h f = h a e
+  told_acted c n a w e h f = cc
+
   -- what an act may be: it serves a message that is known, and gives the group that is told
   abbrev pub Allows : Core → Actor → Act → Type 0
-  Allows c a x = ServesKnown c.queue.site c.queue.arrivals x × MayGive u key a x
+  Allows c a x = ServesKnown c.queue.site c.queue.arrivals x × MayGive u key.at a x
 
-  turning : (rows : List Row) (n : ℕ) (c : Core) (a : Actor) (w : Answer) → actor_numbered n c ≡ Some a → IsTold Hears (IsAwake key) c n w → At rows c
+  turning : (rows : List Row) (n : ℕ) (c : Core) (a : Actor) (w : Answer) → actor_numbered n c ≡ Some a → IsTold Hears (IsAwake key) (HasActed u key) c n w → At rows c
       → At rows (with_actor c (next a key.at w).1) × Stands c.queue (with_actor c (next a key.at w).1).actors (next a key.at w).1 × Allows (with_actor c (next a key.at w).1) (next a key.at w).1 (next a key.at w).0
   turning rows n c a w e t h =
       let one = find_all (is_actor n) (IsInformed c.queue.site c.queue.arrivals) c.actors a h.actors e in
       let x = next_acts c.queue.site c.queue.arrivals key.at a w one (told_known c n w t) in
       let b : Actor = (next a key.at w).1 in
-      let f : Fits u b = standing u c.actors key n a w e h.numbers in (
+      let f : Fits u b = standing u c.actors key n a w e h.numbers (told_acted c n a w e t) in (
         record { chain = h.chain; numbers = stands u c.actors b f h.numbers; actors = all_changed (is_actor b.number) (IsInformed c.queue.site c.queue.arrivals) (λ _. b) (λ _ _. x.informed) c.actors h.actors },
-        (x.informed, f),
-        (x.serves, turn_gives u c.actors key n a w e h.numbers (told_awake c n a w e t)),
+        (x.informed, f, turned_found u c.actors key n a w e),
+        (x.serves, turn_gives u c.actors key n a w e h.numbers f (told_awake c n a w e t)),
       )
 
   polling : (rows : List Row) (a : Actor) (c : Core) (max wait : ℕ) (timeout : Option ℕ) → Stands c.queue c.actors a → At rows c → At rows (with_poll key a c max wait timeout)
-  polling rows a c max wait timeout (i, f) h =
+  polling rows a c max wait timeout (i, f, e) h =
       let b : Actor = record a { polls = a.polls + 1 } in
       let j : IsInformed c.queue.site c.queue.arrivals b = record { held = i.held; done = i.done; failed = i.failed } in
-      record { chain = h.chain; numbers = stands u c.actors b (record { settings = f.settings; wakes = polls_wake a.settings.role a (a.polls + 1) f.wakes }) h.numbers; actors = all_changed (is_actor b.number) (IsInformed c.queue.site c.queue.arrivals) (λ _. b) (λ _ _. j) c.actors h.actors }
+      record { chain = h.chain; numbers = stands u c.actors b (polled_fits u a (a.polls + 1) f) h.numbers; actors = all_changed (is_actor b.number) (IsInformed c.queue.site c.queue.arrivals) (λ _. b) (λ _ _. j) c.actors h.actors }
+
+  -- an actor that has acted
+  sent_leaves : (a : Actor) (c : Core) (body : List ℕ) (x : Result Sent Refusal × Queue) → (send_made key a c body x).effect.core.actors ≡ c.actors
+  sent_leaves a c body (x, q) = refl
+
+  others_act : (a : Actor) (c : Core) (x : Act) → Fits u a → IsNoProducer a.settings.role → AreOfScenario u (act_made key a c x).effect.core.actors → HasActed u key (act_made key a c x).effect.core a.number
+  others_act a c x f i h = other_acted u key a (act_made key a c x).effect.core f i h
+
+  acting : (a : Actor) (c : Core) (x : Act) → IsDone x → Fits u a → find (is_actor a.number) c.actors ≡ Some a → MayGive u key.at a x → AreOfScenario u (act_made key a c x).effect.core.actors → HasActed u key (act_made key a c x).effect.core a.number
+  unfolding act_made
+  acting a c (acts.Send body delay group id) i f e m n =
+      λ b y.
+      let found : find (is_actor a.number) c.actors ≡ Some b = ap (λ l. find (is_actor a.number) l) (sym (sent_leaves a c body (sends c.queue.settings.kind c.queue key.at body delay group id))) ∙ y in
+      let is : a ≡ b = let both : Some a ≡ Some b = sym e ∙ found in cc in
+      subst (λ (z : Actor). HasSent u.seed z.settings.role key.at z) is m.1
+  acting a c (acts.Receive max wait timeout) i f e m n = others_act a c (acts.Receive max wait timeout) f m n
+  acting a c (acts.Delete text) i f e m n = others_act a c (acts.Delete text) f m n
+  acting a c (acts.Change text timeout) i f e m n = others_act a c (acts.Change text timeout) f m n
+  acting a c (acts.Prolong text timeout) i f e m n = others_act a c (acts.Prolong text timeout) f m n
+  acting a c (acts.Start task) i f e m n = others_act a c (acts.Start task) f m n
+  acting a c (acts.Cancel task) i f e m n = others_act a c (acts.Cancel task) f m n
+  acting a c (acts.Serve id receipt failed forward) i f e m n = others_act a c (acts.Serve id receipt failed forward) f m n
+  acting a c acts.Nothing i f e m n = absurd i
 
   -- the law by calls
   abbrev chains : CallLaw key
@@ -144,16 +173,18 @@ module _ (u : Scenario) (past : List Row) (key : Key) (start : Queue) (fine : Is
         Hears = Hears;
         hears_none = λ c. tt;
         Woken = IsAwake key;
+        Acted = HasActed u key;
         gives = givingly;
         changes = λ rows a c text timeout h. extends rows c _ h (change_chain u (past ++ rows) key a c text timeout (stocked rows c h));
         deletes = λ rows a c text h. extends rows c _ h (delete_chain u (past ++ rows) key a c text (stocked rows c h));
-        sends = λ rows a c body delay group id m h. extends rows c _ h (sends_chain u (past ++ rows) key c.queue.settings.kind a c body delay group id refl m.1 (stocked rows c h));
+        sends = λ rows a c body delay group id m h. extends rows c _ h (sends_chain u (past ++ rows) key c.queue.settings.kind a c body delay group id refl m.1.0 (stocked rows c h));
         draws = λ rows c hosts h. record { chain = h.chain; numbers = h.numbers; actors = h.actors };
         starts = λ rows c n t e h. record { chain = h.chain; numbers = h.numbers; actors = h.actors };
         cancels = λ rows c n t e h. record { chain = h.chain; numbers = h.numbers; actors = h.actors };
         Stands = Stands;
         May = Allows;
         turns = turning;
+        acted = λ rows a c x i s m h g. acting a c x i s.1 s.2 m.1 g.numbers;
         polls = λ rows a c max wait timeout e s h. polling rows a c max wait timeout s h;
         serves = λ rows a c id r failed o m h. extends rows c _ h (serve_chain u (past ++ rows) key a c id r failed o m.0.0 m.0.1);
       }

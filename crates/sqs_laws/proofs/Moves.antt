@@ -194,7 +194,7 @@ pub record IsNext (past : List Row) (q : Queue) (r : Row) (n : ℕ) (one : Messa
 -- what a row at a FIFO queue, after some rows, has to do with groups: what was sent has the group that was given, and what is
 -- received is the next of its group
 pub record IsOfGroup (s : Scenario) (past : List Row) (q : Queue) (r : Row) (p : Queue) : Type 0 where
-  pub given : (words.is_send r.kind && words.comes r) ≡ true → is_fifo q.settings.kind ≡ true → (m : Message) → numbered q.arrivals p.records ≡ Some m → All (λ a. IsSoundRole a.role) s.actors → (g : List ℕ) → GivesAs s r.agent r.key g → m.group ≡ Some g
+  pub given : (words.is_send r.kind && words.comes r) ≡ true → is_fifo q.settings.kind ≡ true → (m : Message) → numbered q.arrivals p.records ≡ Some m → All (λ a. IsSoundRole a.role) s.actors → (g : List ℕ) → GivesAs s r.agent r.key.at g → m.group ≡ Some g
   pub next : words.received r ≡ true → is_fifo q.settings.kind ≡ true → (n : ℕ) (one : Message) → r.message ≡ Some (id_of q n) → numbered n q.records ≡ Some one → IsNext past q r n one
 
 -- a row by which nothing is sent and nothing received has nothing to do with them

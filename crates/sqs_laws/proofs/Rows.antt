@@ -151,7 +151,7 @@ module _ (u : Scenario) (past : List Row) (key : Key) where
 
   -- a message that has the group which an actor gives, if its queue is a FIFO one
   abbrev HasGroup : Actor → Core → Message → Type 0
-  HasGroup a c m = is_fifo c.queue.settings.kind ≡ true → Gives u key a m.group
+  HasGroup a c m = is_fifo c.queue.settings.kind ≡ true → Gives u key.at a m.group
 
   refused_sent : (a : Actor) (c : Core) (body : List ℕ) (e : Refusal) → IsSent a c body (Err e, c.queue)
   refused_sent a c body e = one_row c c _ refl refl refl tt (stays (nameless_stays key c.queue _ refl (tells _ false false false false false refl refl refl refl refl))) (of_none u past c.queue _ _ refl refl)
@@ -182,18 +182,18 @@ module _ (u : Scenario) (past : List Row) (key : Key) where
       All-push (λ e. e.number < q.arrivals + 1) (living_entries key.at q.entries) _
       (All-filter (λ e. nat_lt key.at e.end) (λ (e : Entry). e.number < q.arrivals + 1) q.entries (old_entries q s)) (omega arith)
 
-  unless_sent : (a : Actor) (c : Core) (body given group : List ℕ) (scope : Option (List ℕ)) (id : List ℕ) (o : Option Entry) → Gives u key a (Some group) → living c.queue key.at scope id ≡ o → IsStocked c.queue → IsSent a c given (send_unless c.queue key.at body group scope id o)
+  unless_sent : (a : Actor) (c : Core) (body given group : List ℕ) (scope : Option (List ℕ)) (id : List ℕ) (o : Option Entry) → Gives u key.at a (Some group) → living c.queue key.at scope id ≡ o → IsStocked c.queue → IsSent a c given (send_unless c.queue key.at body group scope id o)
   unless_sent a c body given group scope id None x f s =
       new_sent a c given (new_message c.queue key.at body (Some group) c.queue.settings.delay) (with_entry c.queue key.at scope id).entries s (λ y. x) refl refl (rests_at c.queue body (Some group) c.queue.settings.delay) refl (refl, refl) (more_entries c.queue scope id s)
   unless_sent a c body given group scope id (Some e) x f s =
       repeat_sent a c given e.number (find_all (λ (x : Entry). nat_lt key.at x.end && same_text x.scope scope && bytes_eq x.id id) (λ x. x.number < c.queue.arrivals) c.queue.entries e s.entries f)
 
-  with_sent : (a : Actor) (c : Core) (scope : Scope) (body : List ℕ) (group id : Option (List ℕ)) → Gives u key a group → IsStocked c.queue → IsSent a c body (send_with c.queue scope key.at body group id)
+  with_sent : (a : Actor) (c : Core) (scope : Scope) (body : List ℕ) (group id : Option (List ℕ)) → Gives u key.at a group → IsStocked c.queue → IsSent a c body (send_with c.queue scope key.at body group id)
   with_sent a c scope body None id x s = refused_sent a c body refusals.MissingGroup
   with_sent a c scope body (Some g) None x s = refused_sent a c body refusals.MissingDeduplication
   with_sent a c scope body (Some g) (Some i) x s = unless_sent a c body body g (scope_of scope g) i (living c.queue key.at (scope_of scope g) i) x refl s
 
-  pub sends_chain : (k : Kind) (a : Actor) (c : Core) (body : List ℕ) (delay : Option ℕ) (group id : Option (List ℕ)) → c.queue.settings.kind ≡ k → Gives u key a group → IsStocked c.queue → IsSent a c body (sends k c.queue key.at body delay group id)
+  pub sends_chain : (k : Kind) (a : Actor) (c : Core) (body : List ℕ) (delay : Option ℕ) (group id : Option (List ℕ)) → c.queue.settings.kind ≡ k → Gives u key.at a group → IsStocked c.queue → IsSent a c body (sends k c.queue key.at body delay group id)
   sends_chain (Standard hosts sampled) a c body delay group id y x s =
       either (IsSent a c body) (is_bad_delay 900 delay) _ _ (refused_sent a c body refusals.BadDelay)
       (new_sent a c body (new_message c.queue key.at body None (delay_of c.queue delay)) c.queue.entries s (λ z. absurd (true≢false (sym z ∙ ap is_fifo y))) refl refl (rests_at c.queue body None (delay_of c.queue delay)) refl (refl, refl) (old_entries c.queue s))

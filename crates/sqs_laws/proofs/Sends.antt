@@ -41,7 +41,7 @@ not_sent m rows r e = sent_as m rows r false (ap (λ b. (is_send r.kind && b) &&
 pub record WasSent (s : Scenario) (fifo : Bool) (m : Message) (by : Row) : Type 0 where
   pub enqueued : m.enqueued ≡ by.key.at
   pub source : m.source ≡ None
-  pub group : fifo ≡ true → All (λ a. IsSoundRole a.role) s.actors → (g : List ℕ) → GivesAs s by.agent by.key g → m.group ≡ Some g
+  pub group : fifo ≡ true → All (λ a. IsSoundRole a.role) s.actors → (g : List ℕ) → GivesAs s by.agent by.key.at g → m.group ≡ Some g
 
 -- what the rows so far say of a queue: by which rows its messages were sent
 pub record Says (s : Scenario) (rows : List Row) (q : Queue) : Type 0 where
@@ -83,7 +83,7 @@ module _ (s : Scenario) (key : Key) (rows : List Row) (q : Queue) (r : Row) (p :
       record {
         enqueued = (d.sent e).0 ∙ sym (ap (λ (x : Key). x.at) at_key) ∙ ap (λ (x : Row). x.key.at) is;
         source = (d.sent e).1;
-        group = λ f u g y. o.given (rw (e, d.tells.comes_so) refl) f d.one there u g (subst (λ (x : Row). GivesAs s x.agent x.key g) (sym is) y);
+        group = λ f u g y. o.given (rw (e, d.tells.comes_so) refl) f d.one there u g (subst (λ (x : Row). GivesAs s x.agent x.key.at g) (sym is) y);
       }
   own_by d false e by x =
       let none : sent_by (id_of q q.arrivals) (rows ++ r ∷ []) ≡ None = sent_as (id_of q q.arrivals) rows r false (rw e refl) ∙ h.fresh q.arrivals (omega arith) in cc

@@ -173,6 +173,7 @@ module _ (key : Key) (f g : Row → ℕ) (h : Outbound → ℕ) (plain : (r : Ro
         Hears = λ c gots. Unit {0};
         hears_none = λ c. tt;
         Woken = λ c n. Unit {0};
+        Acted = λ c n. Unit {0};
         gives = λ p c agent max timeout set i. (from_zero p _ i (given_weighs c agent timeout (give_most c.queue key.at max timeout set)), tt);
         changes = λ p a c text timeout i. from_zero p _ i (change_weighs a c text timeout (read_receipt text));
         deletes = λ p a c text i. from_zero p _ i (delete_weighs a c text (read_receipt text));
@@ -183,6 +184,7 @@ module _ (key : Key) (f g : Row → ℕ) (h : Outbound → ℕ) (plain : (r : Ro
         Stands = λ q actors a. Unit {0};
         May = λ c a x. Unit {0};
         turns = λ p n c a w e t i. (i, tt, tt);
+        acted = λ p a c x i s m h g. tt;
         polls = λ p a c max wait timeout e s i. i;
         serves = λ p a c id r failed o m i. from_zero p _ i (serve_weighs a c id r failed o);
       }

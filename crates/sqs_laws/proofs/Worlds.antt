@@ -23,12 +23,12 @@ use Rattle.sqs_model.specs.World.{Stepped, due_by, world_due, delivered, deliver
 use Rattle.sqs_model.proofs.Branches.{either}
 use Rattle.sqs_model.proofs.Counts.{ascends_lower}
 use Rattle.sqs_model.proofs.Members.{In}
-use Rattle.sqs_model.proofs.Opening.{ascends_enumerated, ascends_filter, ascends_map, wakes_first}
+use Rattle.sqs_model.proofs.Opening.{ascends_enumerated, ascends_filter, ascends_map}
 use Rattle.sqs_model.proofs.WorldAccounts.{due_fits}
 use Rattle.sqs_model.proofs.WorldMoves.{is_due_least, least_in}
 use Rattle.sqs_laws.specs.Words.{EachRow}
 use Rattle.sqs_laws.proofs.Chains.{IsInOrder, IsMoved, handled_moves}
-use Rattle.sqs_laws.proofs.Gives.{AreOfScenario, Fits, due_awake}
+use Rattle.sqs_laws.proofs.Gives.{AreOfScenario, Fits, due_awake, first_fits}
 use Rattle.sqs_laws.proofs.Holding.{IsInformed}
 use Rattle.sqs_laws.proofs.Numbers.{due_over}
 use Rattle.sqs_laws.proofs.Moves.{Chain, IsOfGroup, IsStocked, Keeps, Move, chain_keeps, does_keep, moves_own}
@@ -217,7 +217,7 @@ module _ (scenario : Scenario) (law : RowLaw scenario) where
   fits_first n [] f l = All-nil (λ (x : ℕ × ActorSettings). Fits scenario (opening_actor scenario.seed x))
   fits_first n (a ∷ others) f l =
       let own : slice_get scenario.actors (n - length scenario.queues) ≡ Some a = let same : n - length scenario.queues + 0 ≡ n - length scenario.queues = omega arith in subst (λ k. slice_get scenario.actors k ≡ Some a) same (f 0 a refl) in
-      All-cons (λ (x : ℕ × ActorSettings). Fits scenario (opening_actor scenario.seed x)) (n, a) (enumerate_from (n + 1) others) (record { settings = own; wakes = wakes_first scenario n a a.role refl })
+      All-cons (λ (x : ℕ × ActorSettings). Fits scenario (opening_actor scenario.seed x)) (n, a) (enumerate_from (n + 1) others) (first_fits scenario n a own)
       (fits_first (n + 1) others (λ i x e. let same : n + 1 - length scenario.queues + i ≡ n - length scenario.queues + suc i = omega (arith, l) in subst (λ k. slice_get scenario.actors k ≡ Some x) (sym same) (f (suc i) x e)) (omega (arith, l)))
 
   opening_numbers : (n : ℕ) → AreOfScenario scenario (map (opening_actor scenario.seed) (filter (λ x. x.1.home == n) (numbered_actors scenario)))

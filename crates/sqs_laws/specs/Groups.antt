@@ -1,7 +1,5 @@
 -- The groups that actors give to what they send to FIFO queues.
-use Rattle.std.specs.Fmt.{decimal}
-use Rattle.std.specs.Prelude.{List, None, Option, Some, length, slice_get, ℕ, ◌%◌, ◌-◌, ◌∷◌, ◌≡◌}
-use Rattle.sim_clock.specs.declared.key.Key.{Key}
+use Rattle.std.specs.Prelude.{List, None, Option, Some, length, slice_get, suc, zero, ℕ, ◌+◌, ◌-◌, ◌≡◌}
 use Rattle.sim_engine.specs.Members.{In}
 use Rattle.sqs_message.specs.declared.calls.Call.{Call}
 use Rattle.sqs_message.specs.declared.calls.Call.TheVariants as calls
@@ -9,11 +7,12 @@ use Rattle.sqs_message.specs.declared.calls.ScriptCall.{ScriptCall}
 use Rattle.sqs_message.specs.declared.ids.MessageId.{MessageId}
 use Rattle.sqs_message.specs.declared.row.Row.{Row}
 use Rattle.sqs_model.specs.declared.agents.ActorSettings.{ActorSettings}
-use Rattle.sqs_model.specs.declared.agents.Groups.{Groups}
-use Rattle.sqs_model.specs.declared.agents.Groups.TheVariants.{ByWeight, InTurn}
+use Rattle.sqs_model.specs.declared.agents.ProducerSettings.{ProducerSettings}
 use Rattle.sqs_model.specs.declared.agents.Role.{Role}
 use Rattle.sqs_model.specs.declared.agents.Role.TheVariants.{Consumer, Producer, Script}
-use Rattle.sqs_model.specs.Scenario.{Scenario}
+use Rattle.sqs_model.specs.Actor.{group_of}
+use Rattle.sqs_model.specs.Draw.{Draws, drawn_time}
+use Rattle.sqs_model.specs.Scenario.{Scenario, opening_draws}
 use Rattle.sqs_laws.specs.Words.{sent_by}
 
 -- the group that a call gives, if it is a send
@@ -21,26 +20,34 @@ abbrev pub group_in : Call → Option (List ℕ)
 group_in (calls.Send body delay group id) = group
 group_in _ = None
 
--- the group of a producer's message n, if its groups take turns
-abbrev pub group_in_turn : Option Groups → ℕ → Option (List ℕ)
-group_in_turn None n = None
-group_in_turn (Some (InTurn groups)) n = Some (103 ∷ decimal (n % groups))
-group_in_turn (Some (ByWeight groups)) n = None
+-- when a producer sends a message, and its draws then: after a gap, drawn behind the group of the one before it
+abbrev pub after_gap : ℕ → ℕ × Draws → ℕ × Draws
+after_gap at (gap, draws) = (at + gap, draws)
 
--- an actor of a role gives a group to what it sends as it wakes: a script that of its call at this moment, a producer that
--- of the message whose number is that of the wake
-abbrev pub GivesAt : Role → Key → List ℕ → Type 0
-GivesAt (Script cs) key g = (c : ScriptCall) × In cs c × (c.at ≡ key.at) × (group_in c.call ≡ Some g)
-GivesAt (Producer p) key g = group_in_turn p.groups key.number ≡ Some g
-GivesAt (Consumer c) key g = ⊥
+abbrev pub next_sending : ProducerSettings → ℕ → ℕ × Draws → ℕ × Draws
+next_sending p n (at, draws) = after_gap at (drawn_time p.gap (group_of p.groups n draws).1)
+
+-- when it sends its message n
+abbrev pub sending : Draws → ProducerSettings → ℕ → ℕ × Draws
+sending opening p zero = (p.start, opening)
+sending opening p (suc n) = next_sending p n (sending opening p n)
+
+-- an actor of a role gives a group to what it sends at a moment: a script that of its call, a producer that of its message
+abbrev pub GivesAt : Draws → Role → ℕ → List ℕ → Type 0
+GivesAt opening (Script cs) at g = (c : ScriptCall) × In cs c × (c.at ≡ at) × (group_in c.call ≡ Some g)
+GivesAt opening (Producer p) at g =
+    (n : ℕ) × ((sending opening p n).0 ≡ at) × ((group_of p.groups n (sending opening p n).1).0 ≡ Some g)
+GivesAt opening (Consumer c) at g = ⊥
 
 -- so does the actor of this number
-abbrev pub GivesAs : Scenario → ℕ → Key → List ℕ → Type 0
-GivesAs s agent key g = (a : ActorSettings) × (slice_get s.actors (agent - length s.queues) ≡ Some a) × GivesAt a.role key g
+abbrev pub GivesAs : Scenario → ℕ → ℕ → List ℕ → Type 0
+GivesAs s agent at g =
+    (a : ActorSettings) × (slice_get s.actors (agent - length s.queues) ≡ Some a)
+    × GivesAt (opening_draws s.seed agent) a.role at g
 
 -- a message was sent to its queue with this group
 abbrev pub WasGiven : Scenario → List Row → MessageId → List ℕ → Type 0
-WasGiven s rows m g = (r : Row) × (sent_by m rows ≡ Some r) × GivesAs s r.agent r.key g
+WasGiven s rows m g = (r : Row) × (sent_by m rows ≡ Some r) × GivesAs s r.agent r.key.at g
 
 -- whether a message is in flight by the call of a row
 abbrev pub IsByCall : Row → Option Row → Type 0

@@ -198,6 +198,7 @@ module _ (key : Key) (law : TurnLaw key) where
         Hears = λ c gots. Unit {0};
         hears_none = λ c. tt;
         Woken = λ c n. Unit {0};
+        Acted = λ c n. Unit {0};
         gives = λ p c agent max timeout set h. (given_goes p c agent timeout (give_most c.queue key.at max timeout set) h (law.gives p c max timeout set h), tt);
         changes = λ p a c text timeout h. changes_by p a c text timeout (read_receipt text) h;
         deletes = λ p a c text h. deletes_by p a c text (read_receipt text) h;
@@ -208,14 +209,16 @@ module _ (key : Key) (law : TurnLaw key) where
         Stands = λ q actors a. Stands actors a;
         May = λ c a x. Sends Sent x;
         turns = λ p n c a w e t h. law.turns p n c a w e h;
+        acted = λ p a c x i s m h g. tt;
         polls = law.polls;
         serves = λ p a c id r b o m h. serves_by p a c id r b o m h;
       }
 
-  told_any : (c : Core) (n : ℕ) (w : Answer) → IsTold (λ _ _. Unit {0}) (λ _ _. Unit {0}) c n w
+  told_any : (c : Core) (n : ℕ) (w : Answer) → IsTold (λ _ _. Unit {0}) (λ _ _. Unit {0}) (λ _ _. Unit {0}) c n w
   told_any c n (told_by.Got gots) = tt
   told_any c n told_by.Wake = tt
-  told_any c n w = tt
+  told_any c n told_by.Waiting = tt
+  told_any c n told_by.Other = tt
 
   -- what calls.. the walk by calls says
   abbrev pub Follows : (Core → Effect) → Type 0
@@ -228,7 +231,7 @@ module _ (key : Key) (law : TurnLaw key) where
   act_goes p a c x s o h = (walk.act_goes key by_calls p a c x s o h).goes
 
   pub next_goes : (more : Answer → Core → Effect) (p : Past) (c : Core) (x : Act) (a : Actor) → ((w : Answer) → Follows (more w)) → Stands (with_actor c a).actors a → Sends Sent x → At p [] (with_actor c a) → Goes p [] (acts_next more key c (x, a))
-  next_goes more p c x a f s o h = walk.next_goes key by_calls more 0 p c x a (λ w q d t k. f w q d k) s o h
+  next_goes more p c x a f s o h = walk.next_goes key by_calls more a.number p c x a refl (λ w q d t k. f w q d k) s o h
 
   pub most_goes : (most n : ℕ) (w : Answer) → Follows (acts_most most key n w)
   most_goes most n w p c h = walk.most_goes key by_calls most n w p c (told_any c n w) h
