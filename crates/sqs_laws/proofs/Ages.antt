@@ -1,31 +1,22 @@
 -- Ages: of a message that was sent to its queue, a delete or an expiry tells how long ago that was; and when it expires.
-use Rattle.std.specs.Prelude.{Bool, List, None, Some, [], false, if◌then◌else◌, slice_get, true, ℕ, ◌&&◌, ◌++◌, ◌+◌, ◌-◌, ◌<◌, ◌∷◌, ◌≡◌, ◌≢◌, ◌≤◌, ◌||◌}
-use Rattle.std.proofs.Common.{ap, arith, refl, subst, sym, ◌∙◌}
+use Rattle.std.specs.Prelude.{List, Some, false, slice_get, true, ◌+◌, ◌-◌, ◌≡◌, ◌||◌}
+use Rattle.std.proofs.Common.{ap, subst, sym, ◌∙◌}
 use Rattle.std.proofs.lemmas.Bool.{or_parts}
-use Rattle.std.proofs.lemmas.List.Sums.{fold-append}
-use Rattle.std.proofs.Math.Bool.{and-false}
 use Rattle.sim_clock.specs.declared.key.Key.{Key}
 use Rattle.sqs_message.specs.declared.ids.MessageId.{MessageId}
-use Rattle.sqs_message.specs.declared.message.Message.{Message}
 use Rattle.sqs_message.specs.declared.row.Detail.TheVariants as details
 use Rattle.sqs_message.specs.declared.row.Row.{Row}
 use Rattle.sqs_redrive.specs.declared.settings.QueueSettings.{QueueSettings}
 use Rattle.sqs_model.specs.Accounts.{is_deleted, is_expired}
-use Rattle.sqs_model.specs.Calls.{in_flight_until}
-use Rattle.sqs_model.specs.Queue.{Queue, id_of, numbered, taken_out, with_change}
-use Rattle.sqs_model.specs.Receive.{received}
-use Rattle.sqs_model.specs.Return.{visible_again}
+use Rattle.sqs_model.specs.Queue.{Queue, id_of}
 use Rattle.sqs_model.specs.Run.{IsRunOf, Run}
 use Rattle.sqs_model.specs.Scenario.{Scenario}
 use Rattle.sqs_laws.specs.Laws.{Ages, is_fifo}
 use Rattle.sqs_laws.specs.Words.{EachRow, is_send, names, sent_by}
 use Rattle.sqs_laws.specs.Words as words
-use Rattle.sqs_laws.proofs.Calls.{found_old}
-use Rattle.sqs_laws.proofs.Each.{each_changed, each_pushed, each_taken}
-use Rattle.sqs_laws.proofs.Moves.{Comes, Does, IsStocked, changes, comes, ends, receives, redrives, releases, stays}
-use Rattle.sqs_laws.proofs.Said.{names_apart, names_other, names_same}
+use Rattle.sqs_laws.proofs.Moves.{Does, changes, comes, ends, receives, redrives, releases, stays}
 use Rattle.sqs_laws.proofs.Sends.{Says, WasSent, sends}
-use Rattle.sqs_laws.proofs.Worlds.{NamesOwn, RowLaw, every_row_by}
+use Rattle.sqs_laws.proofs.Worlds.{every_row_by}
 
 -- what the law says of a row
 record IsAsTold (s : Scenario) (before : List Row) (r : Row) (m : MessageId) (by : Row) : Type 0 where

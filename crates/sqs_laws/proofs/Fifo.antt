@@ -6,7 +6,6 @@ use Rattle.sim_clock.specs.declared.key.Key.{Key}
 use Rattle.sqs_message.specs.declared.ids.MessageId.{MessageId}
 use Rattle.sqs_message.specs.declared.message.Message.{Message}
 use Rattle.sqs_message.specs.declared.row.Row.{Row}
-use Rattle.sqs_redrive.specs.declared.settings.QueueSettings.{QueueSettings}
 use Rattle.sqs_model.specs.Progress.{IsSoundScenario}
 use Rattle.sqs_model.specs.Queue.{Queue, id_of, numbered, same_group}
 use Rattle.sqs_model.specs.Run.{IsRunOf, Run}
@@ -20,7 +19,7 @@ use Rattle.sqs_laws.proofs.Calls.{found_old}
 use Rattle.sqs_laws.proofs.End as end
 use Rattle.sqs_laws.proofs.Flights.{flights}
 use Rattle.sqs_laws.proofs.Moves.{Does, IsNext, IsOfGroup, IsStocked, Move, Receives, changes, comes, ends, receives, redrives, releases, stays}
-use Rattle.sqs_laws.proofs.Sends.{WasSent, sends}
+use Rattle.sqs_laws.proofs.Sends.{sends}
 use Rattle.sqs_laws.proofs.Worlds.{RowLaw, both, every_row_by}
 
 module _ (s : Scenario) (sound : IsSoundScenario s) where

@@ -1,8 +1,7 @@
 -- Which messages are in flight, by the rows so far.
-use Rattle.std.specs.Prelude.{Bool, List, None, Option, Some, [], false, if◌then◌else◌, is_some, not, true, ℕ, ◌++◌, ◌==◌, ◌∷◌, ◌≡◌, ◌≢◌, ◌||◌}
+use Rattle.std.specs.Prelude.{Bool, List, None, Some, [], false, is_some, true, ℕ, ◌++◌, ◌==◌, ◌∷◌, ◌≡◌, ◌≢◌, ◌||◌}
 use Rattle.std.proofs.Common.{ap, refl, subst, sym, ◌∙◌}
 use Rattle.std.proofs.lemmas.Bool.{eqb-false, eqb-true}
-use Rattle.std.proofs.lemmas.List.Sums.{fold-append}
 use Rattle.sim_clock.specs.declared.key.Key.{Key}
 use Rattle.sqs_message.specs.declared.ids.MessageId.{MessageId}
 use Rattle.sqs_message.specs.declared.message.Message.{Message}

@@ -1,5 +1,5 @@
 -- An actor gives to what it sends the group that the settings tell.
-use Rattle.std.specs.Prelude.{All, Bool, List, None, Option, Some, [], drop, false, find, length, nat_lt, slice_get, suc, true, zero, ℕ, ◌+◌, ◌-◌, ◌<◌, ◌==◌, ◌∷◌, ◌≡◌, ◌≤◌, ◌⊎◌}
+use Rattle.std.specs.Prelude.{All, List, Option, Some, [], drop, find, length, nat_lt, slice_get, suc, zero, ℕ, ◌+◌, ◌-◌, ◌<◌, ◌==◌, ◌∷◌, ◌≡◌, ◌≤◌}
 use Rattle.std.proofs.Common.{ap, arith, inl, inr, refl, subst, sym, ◌∙◌}
 use Rattle.std.proofs.lemmas.Bool.{cases_order, eq-eqb, eqb-true}
 use Rattle.std.proofs.lemmas.List.Elements.{All-get_or}
@@ -19,7 +19,7 @@ use Rattle.sqs_model.specs.declared.agents.ConsumerSettings.{ConsumerSettings}
 use Rattle.sqs_model.specs.declared.agents.ProducerSettings.{ProducerSettings}
 use Rattle.sqs_model.specs.declared.agents.Role.{Role}
 use Rattle.sqs_model.specs.declared.agents.Role.TheVariants.{Consumer, Producer, Script}
-use Rattle.sqs_model.specs.Actor.{Actor, act_of, first_at, group_of, has_come, next, next_as, producer_sends, producer_sent, producer_wake, script_wake, wakes_after, woken}
+use Rattle.sqs_model.specs.Actor.{Actor, act_of, first_at, group_of, has_come, next, next_as, producer_sends, script_wake, wakes_after, woken}
 use Rattle.sqs_model.specs.Draw.{Draws, drawn_time}
 use Rattle.sqs_model.specs.Dues.{dues}
 use Rattle.sqs_model.specs.Progress.{Ascends, IsSoundDistribution, IsSoundRole, WakesFor}
@@ -153,10 +153,10 @@ one_message o p m n s e =
 sends_gives : (seed : ℕ) (a : Actor) (p : ProducerSettings) (at : ℕ) (x : Option (List ℕ) × Draws) → group_of p.groups a.wakes a.draws ≡ x → sending (opening_draws seed a.number) p a.wakes ≡ (at, a.draws) → Tells seed (Producer p) at (producer_sends a p x).0 (producer_sends a p x).1
 sends_gives seed a p at (group, draws) e w = (
   λ s g (i, t, y).
-  let o : Draws = opening_draws seed a.number in
-  let is : i ≡ a.wakes = one_message o p i a.wakes s (t ∙ sym (ap (λ (z : ℕ × Draws). z.0) w)) in
-  let own : (group_of p.groups a.wakes a.draws).0 ≡ (group_of p.groups i (sending o p i).1).0 = ap (λ (z : ℕ × Draws). (group_of p.groups a.wakes z.1).0) (sym w) ∙ ap (λ k. (group_of p.groups k (sending o p k).1).0) (sym is) in
-  ap (λ (z : Option (List ℕ) × Draws). z.0) (sym e) ∙ own ∙ y,
+      let o : Draws = opening_draws seed a.number in
+      let is : i ≡ a.wakes = one_message o p i a.wakes s (t ∙ sym (ap (λ (z : ℕ × Draws). z.0) w)) in
+      let own : (group_of p.groups a.wakes a.draws).0 ≡ (group_of p.groups i (sending o p i).1).0 = ap (λ (z : ℕ × Draws). (group_of p.groups a.wakes z.1).0) (sym w) ∙ ap (λ k. (group_of p.groups k (sending o p k).1).0) (sym is) in
+      ap (λ (z : Option (List ℕ) × Draws). z.0) (sym e) ∙ own ∙ y,
   record { n = a.wakes; draws = a.draws; sent = omega arith; now = w; drawn = ap (λ (z : Option (List ℕ) × Draws). z.1) (sym e) },
 )
 
@@ -241,10 +241,10 @@ MayGive u at a act = IsNoProducer a.settings.role
 may_give : (u : Scenario) (at : ℕ) (a : Actor) (x : Act) → slice_get u.actors (a.number - length u.queues) ≡ Some a.settings → Tells u.seed a.settings.role at x a → MayGive u at a x
 may_give u at a (acts.Send body delay group id) f h = (
   λ s g (x, e, y).
-  let is : x ≡ a.settings = let both : Some x ≡ Some a.settings = sym e ∙ f in cc in
-  let i : ℕ = a.number - length u.queues in
-  let role : IsSoundRole a.settings.role = subst (λ (z : ActorSettings). IsSoundRole z.role) (get_or_from_slice_get u.actors i a.settings a.settings f) (All-get_or (λ z. IsSoundRole z.role) u.actors i a.settings (slice_get_within u.actors i a.settings f) s) in
-  h.0 role g (subst (λ (z : ActorSettings). GivesAt (opening_draws u.seed a.number) z.role at g) is y),
+      let is : x ≡ a.settings = let both : Some x ≡ Some a.settings = sym e ∙ f in cc in
+      let i : ℕ = a.number - length u.queues in
+      let role : IsSoundRole a.settings.role = subst (λ (z : ActorSettings). IsSoundRole z.role) (get_or_from_slice_get u.actors i a.settings a.settings f) (All-get_or (λ z. IsSoundRole z.role) u.actors i a.settings (slice_get_within u.actors i a.settings f) s) in
+      h.0 role g (subst (λ (z : ActorSettings). GivesAt (opening_draws u.seed a.number) z.role at g) is y),
   h.1,
 )
 may_give u at a (acts.Receive max wait timeout) f h = h

@@ -1,5 +1,5 @@
 -- An actor holds only messages that it was told of, and serves no other.
-use Rattle.std.specs.Prelude.{Bool, List, None, Option, Some, [], drop, false, length, min, nat_le, nat_lt, true, ℕ, ◌+◌, ◌++◌, ◌<◌, ◌∷◌, ◌≡◌, ◌≤◌}
+use Rattle.std.specs.Prelude.{Bool, List, None, Option, Some, [], drop, false, length, nat_lt, true, ℕ, ◌+◌, ◌++◌, ◌<◌, ◌∷◌, ◌≡◌, ◌≤◌}
 use Rattle.std.proofs.Common.{arith, refl}
 use Rattle.sqs_message.specs.declared.calls.Call.{Call}
 use Rattle.sqs_message.specs.declared.calls.Call.TheVariants as calls

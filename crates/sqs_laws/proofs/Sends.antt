@@ -1,22 +1,17 @@
 -- Messages that were sent to a queue: by which row, when, and with which group.
-use Rattle.std.specs.Prelude.{All, Bool, List, None, Some, [], false, if◌then◌else◌, slice_get, true, ℕ, ◌&&◌, ◌++◌, ◌+◌, ◌-◌, ◌<◌, ◌∷◌, ◌≡◌, ◌≢◌, ◌≤◌, ◌||◌}
+use Rattle.std.specs.Prelude.{All, Bool, List, None, Some, [], false, if◌then◌else◌, slice_get, true, ℕ, ◌&&◌, ◌++◌, ◌<◌, ◌∷◌, ◌≡◌, ◌≢◌, ◌≤◌}
 use Rattle.std.proofs.Common.{ap, arith, refl, subst, sym, ◌∙◌}
-use Rattle.std.proofs.lemmas.Bool.{or_parts}
 use Rattle.std.proofs.lemmas.List.Sums.{fold-append}
 use Rattle.std.proofs.Math.Bool.{and-false}
 use Rattle.sim_clock.specs.declared.key.Key.{Key}
 use Rattle.sqs_message.specs.declared.ids.MessageId.{MessageId}
 use Rattle.sqs_message.specs.declared.message.Message.{Message}
-use Rattle.sqs_message.specs.declared.row.Detail.TheVariants as details
 use Rattle.sqs_message.specs.declared.row.Row.{Row}
-use Rattle.sqs_redrive.specs.declared.settings.QueueSettings.{QueueSettings}
-use Rattle.sqs_model.specs.Accounts.{is_deleted, is_expired}
 use Rattle.sqs_model.specs.Calls.{in_flight_until}
 use Rattle.sqs_model.specs.Progress.{IsSoundRole}
 use Rattle.sqs_model.specs.Queue.{Queue, id_of, numbered, taken_out, with_change}
 use Rattle.sqs_model.specs.Receive.{received}
 use Rattle.sqs_model.specs.Return.{visible_again}
-use Rattle.sqs_model.specs.Run.{IsRunOf, Run}
 use Rattle.sqs_model.specs.Scenario.{Scenario}
 use Rattle.sqs_laws.specs.Groups.{GivesAs}
 use Rattle.sqs_laws.specs.Laws.{is_fifo}
@@ -26,7 +21,7 @@ use Rattle.sqs_laws.proofs.Calls.{found_old, pushed_found}
 use Rattle.sqs_laws.proofs.Each.{each_changed, each_pushed, each_taken}
 use Rattle.sqs_laws.proofs.Moves.{Comes, Does, IsOfGroup, IsStocked, changes, comes, ends, receives, redrives, releases, stays}
 use Rattle.sqs_laws.proofs.Said.{names_apart, names_other, names_same}
-use Rattle.sqs_laws.proofs.Worlds.{NamesOwn, RowLaw, every_row_by}
+use Rattle.sqs_laws.proofs.Worlds.{NamesOwn, RowLaw}
 
 -- the row by which a message was sent, with one more row
 sent_as : (m : MessageId) (rows : List Row) (r : Row) (b : Bool) → ((is_send r.kind && words.comes r) && names m r) ≡ b → sent_by m (rows ++ r ∷ []) ≡ (if b then Some r else sent_by m rows)

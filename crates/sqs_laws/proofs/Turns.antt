@@ -1,10 +1,10 @@
 -- A FIFO queue gives the messages of a group in the order in which they came, all that may be given, and none of a group of which
 -- one is in flight.
 use Rattle.std.specs.List.{list_any}
-use Rattle.std.specs.Prelude.{All, Bool, List, Option, Some, [], cond, false, filter, not, suc, take, true, zero, ℕ, ◌&&◌, ◌+◌, ◌++◌, ◌<◌, ◌∷◌, ◌≡◌, ◌≤◌, ◌⊎◌}
+use Rattle.std.specs.Prelude.{All, Bool, List, [], cond, false, filter, not, suc, take, true, zero, ℕ, ◌&&◌, ◌+◌, ◌++◌, ◌<◌, ◌∷◌, ◌≡◌, ◌≤◌, ◌⊎◌}
 use Rattle.std.proofs.Common.{ap, arith, inl, inr, refl, subst, sym, true≢false, ◌∙◌}
 use Rattle.std.proofs.lemmas.Bool.{and_parts, or_parts}
-use Rattle.std.proofs.lemmas.List.Elements.{All-cons, All-head, All-nil, All-tail}
+use Rattle.std.proofs.lemmas.List.Elements.{All-cons, All-nil}
 use Rattle.sim_clock.specs.Firsts.{kept_when}
 use Rattle.sqs_message.specs.declared.message.Message.{Message}
 use Rattle.sqs_message.specs.declared.message.Place.{Place}
@@ -12,11 +12,11 @@ use Rattle.sqs_message.specs.declared.message.Place.TheVariants as places
 use Rattle.sqs_redrive.specs.declared.settings.Kind.{Kind}
 use Rattle.sqs_redrive.specs.declared.settings.Kind.TheVariants.{Fifo, Standard}
 use Rattle.sqs_model.specs.Available.{available_at, firsts, is_open, open_from}
-use Rattle.sqs_model.specs.Queue.{is_delayed, is_in_flight, is_visible, same_group, same_text}
+use Rattle.sqs_model.specs.Queue.{is_delayed, is_in_flight, is_visible, same_group}
 use Rattle.sqs_model.specs.Texts.{same_text_decides}
-use Rattle.sqs_model.proofs.Grouped.{IsLed, Leaders, climbs_open, firsts_led, groups}
-use Rattle.sqs_model.proofs.Members.{In, into_filter, of_all}
-use Rattle.sqs_model.proofs.Numbered.{Climbs, all_above, climbs_from}
+use Rattle.sqs_model.proofs.Grouped.{Leaders, climbs_open, firsts_led, groups}
+use Rattle.sqs_model.proofs.Members.{In, of_all}
+use Rattle.sqs_model.proofs.Numbered.{Climbs, all_above}
 use Rattle.sqs_laws.specs.Laws.{is_fifo}
 
 -- groups are alike or apart

@@ -1,5 +1,5 @@
 -- What an actor does next leaves it sound, makes it wake later or as before, and sends only what arrives later.
-use Rattle.std.specs.Prelude.{Bool, List, None, Option, Some, [], drop, if◌then◌else◌, length, max, min, nat_lt, suc, zero, ℕ, ◌++◌, ◌+◌, ◌<◌, ◌∷◌, ◌≡◌, ◌≤◌, ◌⊎◌}
+use Rattle.std.specs.Prelude.{Bool, List, None, Option, Some, [], drop, if◌then◌else◌, length, max, nat_lt, suc, zero, ℕ, ◌++◌, ◌+◌, ◌<◌, ◌∷◌, ◌≡◌, ◌≤◌, ◌⊎◌}
 use Rattle.std.proofs.Common.{add-one, ap, arith, inl, inr, refl, subst, sym, ◌∙◌}
 use Rattle.sqs_message.specs.declared.calls.ScriptCall.{ScriptCall}
 use Rattle.sqs_model.specs.declared.acts.Act.{Act}

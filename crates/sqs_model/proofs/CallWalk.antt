@@ -1,7 +1,7 @@
 -- Laws of a handling by the calls at its site, and the one walk over the definitions of a handling. A new act, call or class of
 -- events has its case here, and a law that is an instance of the records below needs none of its own.
 use Rattle.std.specs.List.{list_any}
-use Rattle.std.specs.Prelude.{Bool, Err, List, None, Ok, Option, Result, Some, [], false, find, if◌then◌else◌, suc, true, unwrap_or, zero, ℕ, ◌-◌, ◌/◌, ◌+◌, ◌==◌, ◌∷◌, ◌≡◌}
+use Rattle.std.specs.Prelude.{Bool, Err, List, None, Ok, Option, Result, Some, [], false, find, suc, true, unwrap_or, zero, ℕ, ◌-◌, ◌/◌, ◌+◌, ◌==◌, ◌∷◌, ◌≡◌}
 use Rattle.std.proofs.Common.{refl, subst, ◌∙◌}
 use Rattle.std.proofs.lemmas.Bool.{eqb-true}
 use Rattle.sim_clock.specs.declared.key.Class.{Class}
@@ -41,7 +41,7 @@ use Rattle.sqs_model.specs.Queue.{Queue}
 use Rattle.sqs_model.specs.Receive.{give_most, receive}
 use Rattle.sqs_model.specs.Return.{released}
 use Rattle.sqs_model.specs.Site.{Core, Effect, Poll, Site, actor_numbered, and_then, has_key, is_actor, no_effect, number_of, says, task_numbered, with_actor, with_task}
-use Rattle.sqs_model.specs.Step.{Handled, arrival_done, ends_at, handle_arrival, handle_class, handle_expiry, handle_sample, handle_step, handled, handled_when, is_arrival, release_done, with_polls}
+use Rattle.sqs_model.specs.Step.{Handled, arrival_done, ends_at, handle_arrival, handle_class, handle_expiry, handle_step, handled, handled_when, is_arrival, release_done, with_polls}
 use Rattle.sqs_model.specs.Task.{Task}
 use Rattle.sqs_model.proofs.Answered.{receive_by}
 use Rattle.sqs_model.proofs.Branches.{either, either_by}

@@ -1,13 +1,11 @@
 -- Laws of a handling by single changes of a site: a call gives its rows one after another, and each row is a change.
 -- Each such law is a law by calls, so one walk serves them all.
-use Rattle.std.specs.List.{list_any}
-use Rattle.std.specs.Prelude.{Bool, Err, List, None, Ok, Option, Result, Some, [], false, find, if◌then◌else◌, map, suc, true, unwrap_or, zero, ℕ, ◌-◌, ◌/◌, ◌+◌, ◌==◌, ◌∷◌, ◌≡◌}
+use Rattle.std.specs.Prelude.{Bool, Err, List, None, Ok, Option, Result, Some, [], false, find, if◌then◌else◌, map, true, ℕ, ◌+◌, ◌==◌, ◌∷◌, ◌≡◌}
 use Rattle.std.proofs.Common.{refl}
 use Rattle.sim_clock.specs.declared.key.Class.{Class}
 use Rattle.sim_clock.specs.declared.key.Class.TheVariants as classes
 use Rattle.sim_clock.specs.declared.key.Key.{Key}
 use Rattle.sim_clock.specs.declared.refusal.Refusal.{Refusal}
-use Rattle.sim_clock.specs.declared.refusal.Refusal.TheVariants as refusals
 use Rattle.sim_clock.specs.Firsts.{without}
 use Rattle.sqs_message.specs.declared.ids.MessageId.{MessageId}
 use Rattle.sqs_message.specs.declared.ids.Origin.{Origin}
@@ -15,34 +13,27 @@ use Rattle.sqs_message.specs.declared.ids.Receipt.{Receipt}
 use Rattle.sqs_message.specs.declared.row.Detail.TheVariants as details
 use Rattle.sqs_message.specs.declared.row.Row.{Row}
 use Rattle.sqs_message.specs.declared.row.RowAnswer.TheVariants as answers
-use Rattle.sqs_message.specs.declared.row.RowKind.TheVariants as kinds
 use Rattle.sqs_message.specs.Ids.{read_receipt}
-use Rattle.sqs_redrive.specs.MoveTasks.{MoveTask, is_running, task_started}
+use Rattle.sqs_redrive.specs.MoveTasks.{task_started}
 use Rattle.sqs_redrive.specs.declared.answers.Got.{Got}
-use Rattle.sqs_redrive.specs.declared.settings.Kind.{Kind}
-use Rattle.sqs_redrive.specs.declared.settings.Kind.TheVariants.{Fifo, Standard}
 use Rattle.sqs_redrive.specs.declared.settings.TaskStatus.TheVariants.{Cancelled}
 use Rattle.sqs_redrive.specs.declared.transfers.Load.{Load}
 use Rattle.sqs_redrive.specs.declared.transfers.Outbound.{Outbound}
 use Rattle.sqs_model.specs.declared.acts.Act.{Act}
-use Rattle.sqs_model.specs.declared.acts.Act.TheVariants as acts
 use Rattle.sqs_model.specs.declared.acts.Answer.{Answer}
 use Rattle.sqs_model.specs.declared.acts.Answer.TheVariants as told_by
 use Rattle.sqs_model.specs.Actor.{Actor, next}
-use Rattle.sqs_model.specs.Acts.{Made, act_made, all_came_back, came_back, cancel_done, cancel_made, change_answered, change_made, change_row, delete_done, delete_made, forward_row, given, got_row, long_poll, made, receive_as, receive_made, receive_none, receive_row, receive_some, redrive_by, runs, send_made, sends, serve_made, short_poll, start_made, task_row, with_poll}
+use Rattle.sqs_model.specs.Acts.{act_made, all_came_back, came_back, change_answered, change_made, change_row, delete_done, delete_made, forward_row, given, got_row, receive_some, redrive_by, send_made, sends, serve_made, with_poll}
 use Rattle.sqs_model.specs.Arrive.{arrived}
-use Rattle.sqs_model.specs.Available.{all_hosts}
 use Rattle.sqs_model.specs.Calls.{change, delete}
-use Rattle.sqs_model.specs.Draw.{Draws, drawn_uniform}
-use Rattle.sqs_model.specs.Polls.{acts_found, acts_most, acts_next, answer_polls, answer_when, can_give, poll_answered, poll_given, told, without_poll}
+use Rattle.sqs_model.specs.Draw.{drawn_uniform}
+use Rattle.sqs_model.specs.Polls.{acts_most, acts_next, answer_polls, poll_answered, without_poll}
 use Rattle.sqs_model.specs.Queue.{Queue, id_of}
 use Rattle.sqs_model.specs.Receive.{give_most, timeout_of}
 use Rattle.sqs_model.specs.Return.{released}
 use Rattle.sqs_model.specs.Site.{Core, Effect, Poll, Site, actor_numbered, and_then, has_key, no_effect, number_of, says, task_numbered, with_actor, with_queue, with_task}
-use Rattle.sqs_model.specs.Step.{Handled, release_done, arrival_done, ends_at, handle_arrival, handle_class, handle_expiry, handle_step, handled, handled_when, is_arrival, with_polls}
+use Rattle.sqs_model.specs.Step.{release_done, arrival_done, ends_at, handle_arrival, handle_class, handle_expiry, handle_step, handled, is_arrival, with_polls}
 use Rattle.sqs_model.specs.Task.{Task}
-use Rattle.sqs_model.proofs.Answered.{receive_by}
-use Rattle.sqs_model.proofs.Branches.{either, either_by}
 use Rattle.sqs_model.proofs.Ledger.{marks}
 use Rattle.sqs_model.proofs.Sending.{Sends}
 use Rattle.sqs_model.proofs.CallWalk as walk
