@@ -1,7 +1,7 @@
 -- Tests that decide whether two are equal, as that of texts which may be absent.
 use Rattle.std.specs.Prelude.{◌≡◌, Bool, List, None, Option, Some, ℕ}
 use Rattle.std.specs.Bool.{Decides}
-use Rattle.std.specs.Cmp.{IsEquivalence, both_ways}
+use Rattle.std.specs.Cmp.{IsEquivalence, IsPartialEquivalence, both_ways, partial_equiv_from_equiv}
 use Rattle.std.specs.Cmp.Lexicographic.{bytes_decides}
 use Rattle.std.proofs.Common.{ap, refl, sym, true≢false}
 use Rattle.sqs_model.specs.Queue.{same_text}
