@@ -150,6 +150,7 @@ module _ (key : Key) where
   of_next u past c agent q m g x t s o =
       record {
         given = λ e. cc;
+        repeats = λ e. cc;
         next = λ e f n one i h.
             let id : g.id ≡ id_of q n = cc in
             let is : m.number ≡ n = sym (ap (λ (y : MessageId). y.number) t.id) ∙ ap (λ (y : MessageId). y.number) id in
@@ -191,7 +192,7 @@ module _ (key : Key) where
               lasts = ap (λ x. leaves x m) p ∙ l;
               after = refl;
             });
-      }) (of_none u past q _ _ refl refl)
+      }) (of_none u past q _ _ refl refl refl)
   back_when u past true None q d n m e p k l f = cc
   back_when u past true (Some policy) q d n m e p k l f =
       let rows : List Row = (redrive_by (Some policy) key d n (redrive_of q m)).rows in
@@ -216,7 +217,7 @@ module _ (key : Key) where
               to = refl;
               after = refl;
             });
-      }) (of_none u past q _ _ refl refl))
+      }) (of_none u past q _ _ refl refl refl))
 
   -- a row about it leaves the site's queue and actors as they are
   pub record Told (d e : Core) : Type 0 where

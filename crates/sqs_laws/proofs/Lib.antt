@@ -30,3 +30,4 @@ pub mod Naming
 pub mod Next
 pub mod Sends
 pub mod Fifo
+pub mod Repeats

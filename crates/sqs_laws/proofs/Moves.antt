@@ -1,6 +1,6 @@
 -- What a row of a handling did to its queue.
 use Rattle.std.specs.Prelude.{All, Bool, Err, List, None, Ok, Option, Result, Some, [], false, true, ℕ, ◌+◌, ◌++◌, ◌<◌, ◌∷◌, ◌≡◌, ◌≤◌, ◌⊎◌, ◌-◌, ◌&&◌, ◌||◌}
-use Rattle.std.proofs.Common.{ap, arith, refl, subst, sym, true≢false, ◌∙◌}
+use Rattle.std.proofs.Common.{ap, arith, inl, inr, refl, subst, sym, true≢false, ◌∙◌}
 use Rattle.std.proofs.Math.Bool.{and-false}
 use Rattle.std.proofs.lemmas.List.{append-nil, append_assoc}
 use Rattle.std.proofs.lemmas.List.Elements.{All-push, All-weaker}
@@ -26,16 +26,22 @@ use Rattle.sqs_redrive.specs.MoveTasks.{is_worn}
 use Rattle.sqs_model.specs.Accounts.{is_deleted, is_expired, origin_in}
 use Rattle.sqs_model.specs.Queue.{Entry, Queue, has_number, id_of, in_flight, is_in_flight, is_visible, numbered, same_group, taken_out, with_change}
 use Rattle.sqs_model.specs.Calls.{change, delete, in_flight_until, with_message}
+use Rattle.sqs_model.specs.Longest.{deduplication_interval}
 use Rattle.sqs_model.specs.Receive.{received}
 use Rattle.sqs_model.specs.Progress.{IsSoundRole}
 use Rattle.sqs_model.specs.Return.{leaves, visible_again}
 use Rattle.sqs_model.specs.Scenario.{Scenario}
 use Rattle.sqs_model.proofs.Counts.{all_changed, all_without, ascends_changed, ascends_push, ascends_without}
+use Rattle.sqs_model.proofs.Members.{In, of_all}
 use Rattle.sqs_model.proofs.Numbered.{Climbs}
 use Rattle.sqs_model.proofs.SiteAccounts.{IsFound}
 use Rattle.sqs_laws.specs.Groups.{GivesAs, IsByCall}
 use Rattle.sqs_laws.specs.Laws.{is_fifo}
 use Rattle.sqs_laws.specs.Words as words
+
+-- a deduplication entry of a queue, or a new one of the message that comes to it, which lives for 5 minutes
+abbrev pub IsEntered : Key → Queue → Entry → Type 0
+IsEntered key q e = In q.entries e ⊎ ((e.number ≡ q.arrivals) × (e.end ≡ key.at + deduplication_interval))
 
 -- what a row tells of a message: whether it comes, is received, is changed, is released or leaves
 pub record Tells (r : Row) (comes received changed released leaves : Bool) : Type 0 where
@@ -102,7 +108,7 @@ module _ (key : Key) (q : Queue) (r : Row) (p : Queue) where
     pub rests : is_in_flight one ≡ false
     pub told : origin_in r (Some (id_of q q.arrivals)) ≡ Some one.origin
     pub sent : words.is_send r.kind ≡ true → (one.enqueued ≡ key.at) × (one.source ≡ None)
-    pub old : All (λ e. e.number < q.arrivals + 1) entries
+    pub entered : All (IsEntered key q) entries
     pub after : with_message (record q { entries = entries }) one ≡ p
 
   -- a message of the queue that a row names
@@ -191,18 +197,27 @@ pub record IsNext (past : List Row) (q : Queue) (r : Row) (n : ℕ) (one : Messa
   pub before : (i : ℕ) (m : Message) → numbered i q.records ≡ Some m → same_group one m ≡ true → i < n → IsByCall r (words.flight (id_of q i) past)
   pub after : (i : ℕ) (m : Message) → numbered i q.records ≡ Some m → same_group one m ≡ true → n < i → is_in_flight m ≡ false
 
+-- a row that repeats a message of a FIFO queue, by a deduplication entry that lives
+pub record RepeatsEntry (q : Queue) (r : Row) : Type 0 where
+  pub fifo : is_fifo q.settings.kind ≡ true
+  pub entry : Entry
+  pub there : In q.entries entry
+  pub names : r.message ≡ Some (id_of q entry.number)
+  pub lives : r.key.at < entry.end
+
 -- what a row at a FIFO queue, after some rows, has to do with groups: what was sent has the group that was given, and what is
 -- received is the next of its group
 pub record IsOfGroup (s : Scenario) (past : List Row) (q : Queue) (r : Row) (p : Queue) : Type 0 where
   pub given : (words.is_send r.kind && words.comes r) ≡ true → is_fifo q.settings.kind ≡ true → (m : Message) → numbered q.arrivals p.records ≡ Some m → All (λ a. IsSoundRole a.role) s.actors → (g : List ℕ) → GivesAs s r.agent r.key.at g → m.group ≡ Some g
   pub next : words.received r ≡ true → is_fifo q.settings.kind ≡ true → (n : ℕ) (one : Message) → r.message ≡ Some (id_of q n) → numbered n q.records ≡ Some one → IsNext past q r n one
+  pub repeats : words.is_repeat r.answer ≡ true → RepeatsEntry q r
 
 -- a row by which nothing is sent and nothing received has nothing to do with them
-pub of_none : (s : Scenario) (past : List Row) (q : Queue) (r : Row) (p : Queue) → (words.is_send r.kind && words.comes r) ≡ false → words.received r ≡ false → IsOfGroup s past q r p
-of_none s past q r p a b = record { given = λ e f m h k g i. absurd (true≢false (sym e ∙ a)); next = λ e f n one g h. absurd (true≢false (sym e ∙ b)) }
+pub of_none : (s : Scenario) (past : List Row) (q : Queue) (r : Row) (p : Queue) → (words.is_send r.kind && words.comes r) ≡ false → words.received r ≡ false → words.is_repeat r.answer ≡ false → IsOfGroup s past q r p
+of_none s past q r p a b c = record { repeats = λ e. absurd (true≢false (sym e ∙ c)); given = λ e f m h k g i. absurd (true≢false (sym e ∙ a)); next = λ e f n one g h. absurd (true≢false (sym e ∙ b)) }
 
-pub tells_none : (s : Scenario) (past : List Row) (q : Queue) (r : Row) (p : Queue) (x y z : Bool) → Tells r false false x y z → IsOfGroup s past q r p
-tells_none s past q r p x y z t = of_none s past q r p (ap (λ b. words.is_send r.kind && b) t.comes_so ∙ and-false (words.is_send r.kind)) t.received_so
+pub tells_none : (s : Scenario) (past : List Row) (q : Queue) (r : Row) (p : Queue) (x y z : Bool) → Tells r false false x y z → words.is_repeat r.answer ≡ false → IsOfGroup s past q r p
+tells_none s past q r p x y z t n = of_none s past q r p (ap (λ b. words.is_send r.kind && b) t.comes_so ∙ and-false (words.is_send r.kind)) t.received_so n
 
 -- rows one after another, behind the rows of the run so far
 abbrev pub Chain : Scenario → List Row → Key → Queue → List Row → Queue → Type 0
@@ -265,9 +280,14 @@ pushed_keeps q m entries e o s =
       };
     }
 
+all_old : (key : Key) (q : Queue) (entries : List Entry) → IsStocked q → All (IsEntered key q) entries → All (λ e. e.number < q.arrivals + 1) entries
+all_old key q entries s h =
+    All-weaker (IsEntered key q) (λ (e : Entry). e.number < q.arrivals + 1)
+    (λ e i. elim i as (λ _. e.number < q.arrivals + 1) [ inl k ↦ (let l : e.number < q.arrivals = of_all (λ (x : Entry). x.number < q.arrivals) q.entries e s.entries k in omega (arith, l)) | inr k ↦ omega (arith, k.0) ]) entries h
+
 pub does_keep : (key : Key) (q : Queue) (r : Row) (p : Queue) → Does key q r p → IsStocked q → Keeps q p
 does_keep key q r p (stays d) s = keeps_same q p d.same s
-does_keep key q r p (comes d) s = subst (Keeps q) d.after (pushed_keeps q d.one d.entries d.number d.old s)
+does_keep key q r p (comes d) s = subst (Keeps q) d.after (pushed_keeps q d.one d.entries d.number (all_old key q d.entries s d.entered) s)
 does_keep key q r p (receives d) s = subst (Keeps q) d.after (changed_keeps q d.number (received key.at d.timeout) (λ m. refl) s)
 does_keep key q r p (changes d) s = subst (Keeps q) d.after (changed_keeps q d.number (in_flight_until d.end) (λ m. refl) s)
 does_keep key q r p (releases d) s = subst (Keeps q) d.after (changed_keeps q d.number visible_again (λ m. refl) s)

@@ -1,12 +1,13 @@
 -- Rows that name a message, and what one more row makes of its flight.
-use Rattle.std.specs.Prelude.{Bool, List, None, Option, Some, [], false, if◌then◌else◌, not, true, ◌&&◌, ◌++◌, ◌==◌, ◌∷◌, ◌≡◌, ◌≢◌, ◌||◌}
-use Rattle.std.proofs.Common.{ap, refl, ◌∙◌}
+use Rattle.std.specs.Prelude.{Bool, List, None, Option, Some, [], cond, false, find, if◌then◌else◌, not, true, ◌&&◌, ◌++◌, ◌==◌, ◌∷◌, ◌≡◌, ◌≢◌, ◌||◌}
+use Rattle.std.proofs.Common.{ap, inl, inr, refl, ◌∙◌}
 use Rattle.std.proofs.Math.Bool.{and-false}
 use Rattle.std.proofs.lemmas.Bool.{eq-eqb, ne_eqb}
 use Rattle.std.proofs.lemmas.List.Sums.{fold-append}
 use Rattle.sqs_message.specs.declared.ids.MessageId.{MessageId}
 use Rattle.sqs_message.specs.declared.row.Row.{Row}
 use Rattle.sqs_model.specs.Accounts.{same_id}
+use Rattle.sqs_model.proofs.Members.{In}
 use Rattle.sqs_laws.specs.Words.{changed, flight, is_release, leaves, names, received}
 
 -- a row that names one message names no other
@@ -32,3 +33,12 @@ flight_begins m rows r e f = flight_push m rows r ∙ (rw (names_same m r e, f) 
 
 pub flight_stays : (m : MessageId) (rows : List Row) (r : Row) → names m r ≡ false → flight m (rows ++ r ∷ []) ≡ flight m rows
 flight_stays m rows r e = flight_push m rows r ∙ (rw e refl)
+
+-- what is found is one of them
+pub found_in : {A : Type 0} (p : A → Bool) (xs : List A) (y : A) → find p xs ≡ Some y → In xs y
+found_in p [] y e = cc
+found_in p (x ∷ xs) y e =
+    elim (p x) as (λ b. cond b (Some x) (find p xs) ≡ Some y → In (x ∷ xs) y) [
+      | true ↦ λ f. inl cc
+      | false ↦ λ f. inr (found_in p xs y f)
+    ] e

@@ -1,5 +1,5 @@
 -- Each message that a receive of a FIFO queue gives is the next of its group, behind the rows of those given before it.
-use Rattle.std.specs.Prelude.{Bool, List, Some, [], cond, false, true, ℕ, ◌++◌, ◌<◌, ◌==◌, ◌∷◌, ◌≡◌, ◌≢◌, ◌⊎◌}
+use Rattle.std.specs.Prelude.{Bool, List, Some, [], false, true, ℕ, ◌++◌, ◌<◌, ◌==◌, ◌∷◌, ◌≡◌, ◌≢◌, ◌⊎◌}
 use Rattle.std.proofs.Common.{ap, arith, inl, inr, refl, subst, sym, ◌∙◌}
 use Rattle.std.proofs.lemmas.Bool.{eqb-false, eqb-true}
 use Rattle.std.proofs.lemmas.List.Elements.{All-head, All-tail}
@@ -20,17 +20,8 @@ use Rattle.sqs_laws.specs.Laws.{is_fifo}
 use Rattle.sqs_laws.specs.Words.{flight}
 use Rattle.sqs_laws.proofs.Calls.{AreNext, AreToldOf, other_changed, own_changed, received_stand}
 use Rattle.sqs_laws.proofs.Moves.{IsNext}
-use Rattle.sqs_laws.proofs.Naming.{flight_begins, flight_stays, names_other}
+use Rattle.sqs_laws.proofs.Naming.{found_in, flight_begins, flight_stays, names_other}
 use Rattle.sqs_laws.proofs.Turns.{EachTurn, IsTurn}
-
--- what is found is one of them
-found_in : (n : ℕ) (ms : List Message) (m : Message) → numbered n ms ≡ Some m → In ms m
-found_in n [] m e = cc
-found_in n (x ∷ xs) m e =
-    elim (has_number n x) as (λ b. cond b (Some x) (numbered n xs) ≡ Some m → In (x ∷ xs) m) [
-      | true ↦ λ f. inl cc
-      | false ↦ λ f. inr (found_in n xs m f)
-    ] e
 
 module _ (key : Key) (c : Core) (agent timeout : ℕ) (first : Queue) where
   -- what a message was when the receive began
@@ -60,7 +51,7 @@ module _ (key : Key) (c : Core) (agent timeout : ℕ) (first : Queue) where
     -- those of its group
     alike : (i : ℕ) (x : Message) (w : Was done i x) → same_group m x ≡ true → (In first.records w.one) × (same_group m w.one ≡ true) × (w.one.number ≡ i)
     alike i x w t = (
-      found_in i first.records w.one w.there,
+      found_in (has_number i) first.records w.one w.there,
       ap (λ o. same_text m.group o) w.group ∙ t,
       eqb-true w.one.number i (find_picked (has_number i) first.records w.one w.there),
     )

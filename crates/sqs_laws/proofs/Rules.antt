@@ -13,6 +13,7 @@ use Rattle.sqs_laws.proofs.Letters.{letters_are_dead}
 use Rattle.sqs_laws.proofs.Order.{rows_in_time}
 use Rattle.sqs_laws.proofs.Origins.{origins_are_told}
 use Rattle.sqs_laws.proofs.Receipts.{receipts_are_known}
+use Rattle.sqs_laws.proofs.Repeats.{repeats_are_recent}
 
 pub keeps_the_rules : (s : Scenario) → IsSoundScenario s → All IsQueueSettings s.queues → (r : Run) → IsRunOf s r → KeepsTheRules s r.rows
 keeps_the_rules s sound valid r is =
@@ -24,5 +25,6 @@ keeps_the_rules s sound valid r is =
       origins = origins_are_told s r is;
       ages = ages_are_told s r is;
       fifo = groups_are_in_order s sound r is;
+      repeats = repeats_are_recent s r is;
       in_time = rows_in_time s sound r is;
     }
