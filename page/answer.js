@@ -4,7 +4,7 @@
 
 import { byId, element, setText } from './dom.js';
 import { written } from './numbers.js';
-import { agentsOf, said } from './scenario.js';
+import { agentsOf, forwardsOf, said } from './scenario.js';
 import { named } from './tables.js';
 import { duration, grouped, several } from './units.js';
 
@@ -50,7 +50,7 @@ function maySend(actor) {
 export function forDeadLetters(scenario) {
   const actors = scenario.items('actor'), names = (/** @type {Item[]} */ items, /** @type {string} */ key) =>
     items.map(item => said(item, key));
-  const others = new Set([...names(actors.filter(maySend), 'queue'), ...names(actors, 'forward'),
+  const others = new Set([...names(actors.filter(maySend), 'queue'), ...actors.flatMap(forwardsOf),
     ...names(scenario.items('task'), 'to')]);
   return names(scenario.items('queue'), 'dead_letter').flatMap(name =>
     typeof name === 'string' && !others.has(name) ? [name] : []);

@@ -4,7 +4,7 @@
 
 import { byId, element } from './dom.js';
 import { KEYS } from './facts.js';
-import { FIRST_LISTS, NUMBER, REQUIRED, TABLES, rangeText } from './faults.js';
+import { FIRST_LISTS, REQUIRED, TABLES, mayBeNumber, rangeText } from './faults.js';
 
 /** @typedef {import('./facts.js').Key} Key */
 
@@ -199,9 +199,9 @@ export class Editor {
     const { area } = this, from = area.value.lastIndexOf('\n', area.selectionStart - 1) + 1;
     const end = area.value.indexOf('\n', area.selectionStart), to = end < 0 ? area.value.length : end;
     const isOver = area.value.slice(from, to).includes('=') || HEADER.test(area.value.slice(from, to));
-    const first = key.default !== null && key.default !== REQUIRED ? key.default : key.kind === NUMBER ? key.low : '';
+    const first = key.default !== null && key.default !== REQUIRED ? key.default : mayBeNumber(key) ? key.low : '';
     const value = FIRST_LISTS[key.kind]
-      ?? (key.kind === NUMBER || key.kind === 'true or false' ? String(first).toLowerCase() : `"${first}"`);
+      ?? (mayBeNumber(key) || key.kind === 'true or false' ? String(first).toLowerCase() : `"${first}"`);
     const text = `${key.name} = ${value}`;
     this.replace(isOver ? to : from, to, isOver ? `\n${text}` : text);
     const start = (isOver ? to + 1 : from) + key.name.length + 3;

@@ -14,13 +14,16 @@ import { grouped, several } from './units.js';
 /** @type {Record<string, string>} */
 const KINDS = { text: 'a text', truth: 'true or false', integer: 'a whole number', float: 'a number with a fraction',
   list: 'a list', table: 'a table', date: 'a date or time' };
-export const NUMBER = 'a whole number', TABLES = 'a list of tables';
+const NUMBER = 'a whole number';
+export const TABLES = 'a list of tables';
 export const REQUIRED = 'required';
 // What one may write first for a list that is the value of a key.
 /** @type {Record<string, string>} */
 export const FIRST_LISTS = { 'a list of whole numbers': '[1]', 'a list of pairs [permille, ms]': '[[0, 1], [1000, 1]]',
   'a list of pairs [group, weight]': '[["g", 1]]' };
-const NUMBERS = 'a list of whole numbers';
+const NUMBER_OR_NUMBERS = 'a whole number or a list of whole numbers';
+/** @param {Key} key */
+export const mayBeNumber = key => key.kind === NUMBER || key.kind === NUMBER_OR_NUMBERS;
 const NAME_MOST = 80, COPIES_MOST = 1000n, PREVIEW = 3;
 
 // A value for a message.
@@ -182,7 +185,7 @@ export function rangeText(key) {
   }
   if (key.words) return ` It is ${key.words.slice(0, -1).join(', ')} or ${key.words.at(-1)}.`;
   if (key.kind === KINDS.text && key.high) return ` It has ${key.low} to ${key.high} bytes.`;
-  if (key.kind !== NUMBER) return ` It is ${key.kind}.`;
+  if (!mayBeNumber(key)) return ` It is ${key.kind}.`;
   const byDefault = key.default === null || key.default === REQUIRED ? ''
     : `, and ${grouped(String(key.default))} where it is not given`;
   return ` It has ${grouped(key.low ?? 0)} to ${grouped(key.high ?? 0)}${byDefault}.`;
@@ -256,8 +259,11 @@ function wrongType(fault) {
       + 'table.';
   }
   if (fault.item !== null) {
-    const wanted = found?.kind === NUMBERS ? NUMBER : RULES.forms[found?.kind ?? ''] ?? 'of another kind';
-    return `${itemText(fault)}, and has to be ${wanted}.`;
+    return `${itemText(fault)}, and has to be ${RULES.forms[found?.kind ?? ''] ?? 'of another kind'}.`;
+  }
+  if (node?.type === 'list' && (key === 'forward' || key === 'fails_permille')) {
+    const why = key === 'forward' ? 'which is of version 3' : 'which stands only beside fails_between_ms';
+    return `${whatIsHere(fault)} is a list, ${why}.`;
   }
   const isTables = found?.kind === TABLES;
   const hint = found?.kind === NUMBER && node?.type === 'text' && /^\s*[0-9]+\s*$/.test(node.value)
@@ -277,16 +283,18 @@ function tomlOf(node) {
   return node.type === 'table' ? `{${inTables(node.value)}}` : String(node.value);
 }
 
-// An item of a list, as it begins a sentence.
+// What a fault is of, as it begins a sentence: a key of a table, or an item of its list.
 /** @param {Fault} fault */
-const itemText = fault => `Item number ${(fault.item ?? 0) + 1} of ${fault.key} of ${fault.title()} is `
-  + (fault.node ? shown(tomlOf(fault.node)) : '');
+const whatIsHere = fault => `${fault.item === null ? '' : `Item number ${fault.item + 1} of `}${fault.key} of `
+  + fault.title();
+/** @param {Fault} fault */
+const itemText = fault => `${whatIsHere(fault)} is ${fault.node ? shown(tomlOf(fault.node)) : ''}`;
 
 /** @param {Fault} fault */
 function itemOutOfRange(fault) {
   const { found } = fault;
-  const range = found?.kind === NUMBERS && found.items
-    ? rangeText({ ...found, kind: NUMBER, low: found.items[0], high: found.items[1] }).trim()
+  const range = found?.items
+    ? rangeText({ ...found, kind: NUMBER, low: found.items[0], high: found.items[1], default: null }).trim()
     : RULES.rules[found?.kind ?? ''] ?? '';
   return `${itemText(fault)}. ${range}`;
 }
@@ -294,8 +302,11 @@ function itemOutOfRange(fault) {
 // A list with too few or too many items.
 /** @param {Fault} fault */
 function wrongLength(fault) {
-  const { key, found, node } = fault;
-  return `${key} of ${fault.title()} has ${several(node?.value?.length ?? 0, 'item')}.${rangeText(found)}`;
+  const { found, node } = fault, text = `${whatIsHere(fault)} has ${several(node?.value?.length ?? 0, 'item')}`;
+  if (found?.kind !== NUMBER_OR_NUMBERS) return `${text}.${rangeText(found)}`;
+  const beside = found.beside.at(-1), list = fault.value(String(beside));
+  const pairs = several(Array.isArray(list) ? list.length : 0, 'pair');
+  return `${text}, and ${beside} ${pairs}. Each pair has one number.`;
 }
 
 /** @param {Fault} fault */
@@ -304,7 +315,7 @@ function outOfRange(fault) {
   const text = fault.of ? `${key} of ${fault.title()} is ${value}.` : `${key} is ${value}.`;
   if (key === 'queue' && !fault.of) return 'A scenario has at least one queue.';
   if (fault.item !== null) return itemOutOfRange(fault);
-  if (RULES.lists[found?.kind ?? '']) return wrongLength(fault);
+  if (RULES.lists[found?.kind ?? ''] || node?.type === 'list') return wrongLength(fault);
   if (key === 'kind') return `${text}${rangeText(found ?? KEYS['actor//1'][1])}${nearest(value, ACTORS)}`;
   if (key === 'body') return `${text} It has 1 byte at least for the first message, and 1,024 at most for the last.`;
   if (key === 'script') {
@@ -373,7 +384,7 @@ function unknownQueue(fault) {
     return typeof name === 'string' ? [name] : [];
   });
   if (!queues.includes(value)) {
-    return `${key} of ${title} is ${value}, and there is no queue of this name.${nearest(value, queues)}`;
+    return `${whatIsHere(fault)} is ${value}, and there is no queue of this name.${nearest(value, queues)}`;
   }
   if (fault.of === 'task' && key === 'queue') {
     return `${title} is at ${value}, which is no queue's dead_letter; a task moves dead letters alone.`;
@@ -385,7 +396,7 @@ function unknownQueue(fault) {
 function kindMismatch(fault) {
   const value = String(fault.node?.value), home = String(fault.value(fault.of === 'queue' ? 'name' : 'queue'));
   const [to, at] = [value, home].map(name => name.endsWith('.fifo') ? 'a FIFO queue' : 'a standard queue');
-  return `${fault.key} of ${fault.title()} is ${value}, ${to}, and ${home} is ${at}; both have to be of one kind.`;
+  return `${whatIsHere(fault)} is ${value}, ${to}, and ${home} is ${at}; both have to be of one kind.`;
 }
 
 /** @param {Fault} fault */

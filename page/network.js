@@ -3,13 +3,14 @@
 // do the same at the same queue are one node.
 
 import { forDeadLetters } from './answer.js';
-import { agentsOf, said } from './scenario.js';
+import { agentsOf, forwardsOf, said } from './scenario.js';
 
 /** @typedef {import('./scenario.js').Scenario} Scenario */
 /** @typedef {import('./scenario.js').Item} Item */
 /**
- * What goes over an edge, by the rows that tell it: those of some agents at a queue, with a call and an answer.
- * @typedef {{ queue: string, agents: string[], row: string }} Flow
+ * What goes over an edge, by the rows that tell it: those of some agents at a queue, with a call and an answer, or a
+ * share of them.
+ * @typedef {{ queue: string, agents: string[], row: string, share?: number }} Flow
  */
 /**
  * @typedef {{ id: string, kind: 'queue' | 'dead' | 'producer' | 'consumer' | 'script' | 'task', names: string[],
@@ -55,7 +56,11 @@ export function networkOf(scenario) {
     const { id, kind, agents, queue } = node, flow = (/** @type {string} */ row) => ({ queue, agents, row });
     if (kind !== 'consumer') join(id, queue, 'send', flow('send,new'));
     else join(queue, id, 'receive', flow('receive,ok'));
-    if (node.forward !== null) join(id, node.forward, 'forward', flow('forward,out'));
+    const { forwards } = node;
+    for (const to of new Set(forwards)) {
+      const share = forwards.filter(it => it === to).length / forwards.length;
+      join(id, to, 'forward', { ...flow('forward,out'), share });
+    }
   }
   for (const task of scenario.items('task')) {
     const [name, queue, to] = ['name', 'queue', 'to'].map(key => nameIn(task, key));
@@ -73,17 +78,17 @@ export function networkOf(scenario) {
 /** A node for each group of actors that do the same at the same queue, with where they forward to.
  * @param {Scenario} scenario */
 function actorNodes(scenario) {
-  /** @type {Map<string, NetworkNode & { forward: string | null }>} */
+  /** @type {Map<string, NetworkNode & { forwards: string[] }>} */
   const found = new Map();
   for (const actor of scenario.items('actor')) {
-    const [name, queue, kind, forward] = ['name', 'queue', 'kind', 'forward'].map(key => nameIn(actor, key));
+    const [name, queue, kind] = ['name', 'queue', 'kind'].map(key => nameIn(actor, key)), forwards = forwardsOf(actor);
     if (name === null || queue === null || kind !== 'producer' && kind !== 'consumer' && kind !== 'script') continue;
-    const id = [kind, queue, forward ?? ''].join(' '), agents = agentsOf(actor, name), node = found.get(id);
+    const id = [kind, queue, forwards.join(' ')].join(' '), agents = agentsOf(actor, name), node = found.get(id);
     if (node) {
       node.names.push(name);
       node.agents.push(...agents);
     } else {
-      found.set(id, { id, kind, names: [name], agents, queue, forward });
+      found.set(id, { id, kind, names: [name], agents, queue, forwards });
     }
   }
   return [...found.values()];

@@ -174,7 +174,7 @@ export class NetworkView {
    * @param {import('./network.js').Flow} flow @param {number} at */
   recent(flow, at) {
     const told = this.told[this.told.length - 1], before = Math.max(0, at - Math.round(RECENT * MOMENTS));
-    return told ? this.countAt(told, flow, at) - this.countAt(told, flow, before) : 0;
+    return told ? (flow.share ?? 1) * (this.countAt(told, flow, at) - this.countAt(told, flow, before)) : 0;
   }
 
   /** Sets the places of all nodes: from the left to the right if there is room, else from the top to the bottom, or as

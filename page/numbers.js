@@ -4,7 +4,7 @@
 
 import { byId, element } from './dom.js';
 import { KEYS } from './facts.js';
-import { NUMBER, rangeText, versionOf } from './faults.js';
+import { mayBeNumber, rangeText, versionOf } from './faults.js';
 import { said } from './scenario.js';
 import { grouped, momentOf } from './units.js';
 
@@ -135,7 +135,7 @@ export class NumberPanel {
       const kind = of === 'actor' ? said(table, 'kind') : '';
       for (const key of KEYS[`${of}/${kind}/${version}`] ?? []) {
         const node = table.value.get(key.name);
-        const is = key.kind === NUMBER && node?.type === 'integer' && key.name !== 'version';
+        const is = mayBeNumber(key) && node?.type === 'integer' && key.name !== 'version';
         if (is && node.value >= 0n && node.value <= 2n ** 53n) {
           found.push({ place: prefix + key.name, of, name: said(table, 'name'), title, key, node });
         }

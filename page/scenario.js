@@ -225,6 +225,13 @@ export class Scenario {
 /** @param {Item | undefined} table @param {string} key @returns {unknown} */
 export const said = (table, key) => table && table.type === 'table' ? table.value.get(key)?.value : undefined;
 
+/** The queues to which an actor forwards each message: one, or those of a list.
+ * @param {Item} actor @returns {string[]} */
+export function forwardsOf(actor) {
+  const forward = said(actor, 'forward'), all = Array.isArray(forward) ? forward.map(it => it.value) : [forward];
+  return all.filter(it => typeof it === 'string');
+}
+
 /** The names of an actor in the log: those of its copies, if it has some.
  * @param {Item} actor @param {string} name */
 export function agentsOf(actor, name) {

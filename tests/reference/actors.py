@@ -245,9 +245,10 @@ class Consumer(Actor):
             home.change(self.agent, held.receipt, timeout_s)
 
     def forward(self, home: Home, held: Held, forward: Forwarding) -> None:
-        time = forward.latency.drawn(self.draws)
-        home.row(self.agent, "forward", "out", held.id, "", home.names[forward.queue])
-        home.transfer(self.agent, forward.queue, time, Load("forward", held.id, held.body, held.group))
+        for queue in forward.queues:
+            time = forward.latency.drawn(self.draws)
+            home.row(self.agent, "forward", "out", held.id, "", home.names[queue])
+            home.transfer(self.agent, queue, time, Load("forward", held.id, held.body, held.group))
 
 
 def actor_of(agent: int, settings: ActorSettings, seed: int) -> Actor:

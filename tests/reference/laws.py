@@ -190,13 +190,13 @@ class Sends:
         self.scenario = scenario
         self.groups: dict[str, str | None] = {}
         self.made: collections.Counter[str] = collections.Counter()
-        self.away: dict[str, list[tuple[int, str]]] = collections.defaultdict(list)
+        self.away: dict[tuple[str, str], list[tuple[int, str]]] = collections.defaultdict(list)
         self.given: dict[int, Given] = {}
         for place, row in enumerate(log):
             if row.call == "send":
                 self.given[place] = self.sent(row)
             elif row.call == "forward":
-                self.away[row.agent].append((row.at, row.message))
+                self.away[row.agent, row.detail].append((row.at, row.message))
             elif row.call == "arrive":
                 self.given[place] = self.arrived(row)
             if row.comes():
@@ -224,14 +224,15 @@ class Sends:
         if row.agent not in self.scenario.actors:
             return Given(self.groups.get(row.detail), None, 0)
         least, greatest = self.scenario.latency(row.agent)
-        waiting = self.away[row.agent]
+        way = row.agent, row.queue
+        waiting = self.away[way]
         if least == greatest:
             message: str | None = waiting[0][1]
-            self.away[row.agent] = waiting[1:]
+            self.away[way] = waiting[1:]
         else:
             may = {name for at, name in waiting if at + least <= row.at <= at + greatest}
             message = may.pop() if len(may) == 1 else None
-            self.away[row.agent] = [(at, name) for at, name in waiting if at + greatest > row.at]
+            self.away[way] = [(at, name) for at, name in waiting if at + greatest > row.at]
         delay = self.scenario.queues[row.queue].get("delay_s", 0)
         return Given(self.groups.get(message) if message else None, message, delay)
 

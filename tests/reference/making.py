@@ -15,7 +15,8 @@ EDITED_LINES = ["speed = 1", 'name = "q0"', "delay_s = -1", "hosts = 17", "body 
                 "[[task]]", "[[queue]]", "stop_ms = 5", "copies = 2", 'batch_fails = "whole"', "fails_to_ms = 9",
                 'batch_service = "once"', "service_each_ms = 7", "fails_between_ms = [[1, 9], [5, 5]]",
                 "fails_permille = 10", 'backoff_jitter = "full"', "heartbeat_s = 1", "fail_service_ms = 7",
-                "service = [[0, 1], [1000, 5]]", "backoff_s = []", "gap = 7", 'key_groups = [["g", 1]]']
+                "service = [[0, 1], [1000, 5]]", "backoff_s = []", "gap = 7", 'forward = ["q0"]',
+                "fails_permille = [1, 2]", 'key_groups = [["g", 1]]']
 EDITED_VALUES = ["-1", "0", "1", "3", "901", "43201", "99999999999", "9223372036854775807", "1.5", "true", '""',
                  '"abc"', '"a b"', "[]", "{}", "1979-05-27", '"q0"', '"q1.fifo"', '"script"', '"producer"',
                  '"consumer"', "[[0, 1], [0, 2], [1000, 3]]", "[[0, 5], [1000, 4]]", "[[0, 1], [999, 2]]", "[1, 2]",
@@ -183,8 +184,14 @@ class Maker:
             **self.time("service", [1, 1, 10, 100, 500, 1000], [0, 0, 1, 50, 3000]),
             "fail_permille": self.one([0, 0, 100, 500, 1000]), "idle_ms": self.one(idle)}
         if self.random.random() < 0.6:
-            keys = {**keys, "forward": self.names[self.one(kin)], **self.latency()}
+            keys = {**keys, "forward": self.forward(kin), **self.latency()}
         return keys | (self.new_keys(start) if self.version == 3 else {})
+
+    def forward(self, kin: Sequence[int]) -> object:
+        """One queue, or several, which may be the same."""
+        if self.version < 3 or self.random.random() < 0.5:
+            return self.names[self.one(kin)]
+        return [self.names[self.one(kin)] for _ in range(self.one([1, 2, 2, 3, 10]))]
 
     def new_keys(self, start: int) -> dict[str, object]:
         """What version 3 has besides."""
@@ -203,6 +210,8 @@ class Maker:
         if kind < 0.2:
             begins = [self.moment(0) for _ in range(self.one([1, 2, 2, 3]))]
             keys: dict[str, object] = {"fails_between_ms": [[it, self.moment(it)] for it in begins]}
+            if self.random.random() < 0.5:
+                return {**keys, "fails_permille": [self.one([0, 0, 500, 900, 1000]) for _ in begins]}
         elif kind < 0.4:
             keys = {"fails_from_ms": begin, "fails_to_ms": self.moment(begin)}
         else:

@@ -8,10 +8,10 @@ from faults import Fault
 from scripts import ScriptFault, calls_of
 from settings import (ActorSettings, Bounds, ByQuantiles, Call, ConsumerSettings, Forwarding, Latency, Outage, Policy,
                       ProducerSettings, QueueSettings, Role, Scenario, ScriptSettings, TaskSettings, Time)
-from tables import (MOST_DAY, MOST_TIME, Table, backoffs, boolean, document_of, integer, one_of, quantiles, sized_text,
-                    stretches, tables, text, weighted_groups)
+from tables import (MOST_DAY, MOST_TIME, Table, boolean, document_of, integer, list_of, one_of, one_or_each, one_or_more,
+                    quantiles, sized_text, stretch, tables, text, weighted_group)
 
-MOST_AGENTS, MOST_QUEUES, LONGEST_NAME = 10_000, 1_000, 80
+MOST_AGENTS, MOST_QUEUES, MOST_FORWARDS, LONGEST_NAME = 10_000, 1_000, 10, 80
 AGENT_NAME = re.compile(r"[A-Za-z0-9_-]{1,80}")
 QUEUE_NAME = re.compile(r"(?=.{1,80}\Z)[A-Za-z0-9_-]+(\.fifo)?")
 SCRIPT_NAME = re.compile(r"[A-Za-z0-9_-][A-Za-z0-9._-]{0,79}")
@@ -211,7 +211,7 @@ class Reader:
         elif groups_key == "groups":
             settings.groups = table.required("groups", integer(1, 1_000))
         else:
-            settings.key_groups = table.required("key_groups", weighted_groups)
+            settings.key_groups = table.required("key_groups", list_of(weighted_group, 1, 100))
         if is_fifo:
             settings.has_ids = table.optional("ids", boolean, True)
         settings.stop = self.stop(table, start)
@@ -233,19 +233,22 @@ class Reader:
     def forwarding(self, table: Table, home: int) -> Forwarding | None:
         if not table.has("forward"):
             return None
-        queue = table.required("forward", self.queue_named)
-        self.check_kinds(queue, home, table.place("forward"))
-        return Forwarding(queue, self.latency(table))
+        def kin(value: Any, place: str) -> int:
+            queue = self.queue_named(value, place)
+            self.check_kinds(queue, home, place)
+            return queue
+
+        queues = table.required("forward", one_or_more(kin, MOST_FORWARDS)) if self.version == 3 else [
+            table.required("forward", kin)]
+        return Forwarding(queues, self.latency(table))
 
     def read_new_keys(self, table: Table, consumer: ConsumerSettings) -> None:
         """What version 3 has besides, but for the copies."""
         consumer.stop = self.stop(table, consumer.start)
         consumer.fails_on = table.maybe("fails_on", sized_text(1, 128))
-        times = outage_times(table)
-        permille = table.optional("fails_permille", integer(0, 1_000), 1_000)
-        consumer.outages = [Outage(time, permille) for time in times]
+        consumer.outages = outages(table)
         consumer.is_whole = table.optional("batch_fails", one_of("each", "whole"), "each") == "whole"
-        consumer.backoff_s = table.optional("backoff_s", backoffs, [])
+        consumer.backoff_s = table.optional("backoff_s", list_of(integer(0, 43_200), 1, 12), [])
         consumer.has_jitter = table.optional("backoff_jitter", one_of("none", "full"), "none") == "full"
         seconds = table.maybe("heartbeat_s", integer(1, 43_200))
         consumer.heartbeat = seconds and 1000 * seconds
@@ -309,14 +312,17 @@ def time_of_each(table: Table) -> int | None:
     return each_ms if is_at_once else None
 
 
-def outage_times(table: Table) -> list[range]:
-    """When a consumer has outages: by a list, or by the two ends of one."""
+def outages(table: Table) -> list[Outage]:
+    """The outages of a consumer: by a list, with one chance of them all or one of each, or by the two ends of one."""
     if table.has("fails_between_ms"):
-        return table.required("fails_between_ms", stretches)
+        times = table.required("fails_between_ms", list_of(stretch, 1, 32))
+        chances = table.optional("fails_permille", one_or_each(integer(0, 1_000), len(times)), [1_000] * len(times))
+        return [Outage(time, chance) for time, chance in zip(times, chances)]
     if not table.has("fails_from_ms"):
         return []
     begin = table.required("fails_from_ms", integer(0, MOST_TIME))
-    return [range(begin, table.required("fails_to_ms", integer(begin, MOST_TIME)))]
+    end = table.required("fails_to_ms", integer(begin, MOST_TIME))
+    return [Outage(range(begin, end), table.optional("fails_permille", integer(0, 1_000), 1_000))]
 
 
 def copy_names(name: str, copies: int) -> list[str]:

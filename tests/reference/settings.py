@@ -109,7 +109,9 @@ class ProducerSettings:
 
 @dataclass
 class Forwarding:
-    queue: int
+    """The queues to which each message goes, in their order, each with a latency of its own."""
+
+    queues: list[int]
     latency: Latency
 
 

@@ -151,27 +151,39 @@ def quantiles(value: Any, place: str) -> list[tuple[int, int]]:
     return pairs
 
 
-def weighted_groups(value: Any, place: str) -> list[tuple[str, int]]:
-    """Pairs [group, weight]."""
-    pairs = []
-    for item, at in items_in(value, place, 1, 100):
-        first, second = pair_in(item, at)
-        group = text(first, at)
-        if not is_visible(group, 128):
-            raise Fault(14, at)
-        pairs.append((group, integer(1, 1_000_000)(second, at)))
-    return pairs
+def list_of(type_of: Type[X], least: int, most: int) -> Type[list[X]]:
+    return lambda value, place: [type_of(item, at) for item, at in items_in(value, place, least, most)]
 
 
-def backoffs(value: Any, place: str) -> list[int]:
-    return [integer(0, 43_200)(item, at) for item, at in items_in(value, place, 1, 12)]
+def one_or(list_type: Type[list[X]], type_of: Type[X], count: int) -> Type[list[X]]:
+    """A list, or one value in place of so many."""
+    return lambda value, place: list_type(value, place) if type(value) is list else [type_of(value, place)] * count
 
 
-def stretches(value: Any, place: str) -> list[range]:
-    """Pairs [from, to] of moments, of which the second is not in the stretch of time."""
-    found = []
-    for item, at in items_in(value, place, 1, 32):
-        first, second = pair_in(item, at)
-        begin = integer(0, MOST_TIME)(first, at)
-        found.append(range(begin, integer(begin, MOST_TIME)(second, at)))
-    return found
+def one_or_more(type_of: Type[X], most: int) -> Type[list[X]]:
+    return one_or(list_of(type_of, 1, most), type_of, 1)
+
+
+def one_or_each(type_of: Type[X], count: int) -> Type[list[X]]:
+    """A value for all of so many, or a list with one for each."""
+    def read(value: Any, place: str) -> list[X]:
+        if len(value) != count:
+            raise Fault(14, place)
+        return list_of(type_of, count, count)(value, place)
+    return one_or(read, type_of, count)
+
+
+def weighted_group(value: Any, place: str) -> tuple[str, int]:
+    """A pair [group, weight]."""
+    first, second = pair_in(value, place)
+    group = text(first, place)
+    if not is_visible(group, 128):
+        raise Fault(14, place)
+    return group, integer(1, 1_000_000)(second, place)
+
+
+def stretch(value: Any, place: str) -> range:
+    """A pair [from, to] of moments, of which the second is not in the stretch of time."""
+    first, second = pair_in(value, place)
+    begin = integer(0, MOST_TIME)(first, place)
+    return range(begin, integer(begin, MOST_TIME)(second, place))

@@ -6,8 +6,8 @@ import re
 from collections.abc import Iterator
 
 from tool import ROOT, text_at
-from rehearse_tools.keys import (ITEMS, NUMBER, NUMBERS, QUANTILES, REQUIRED, STRETCHES, TABLES, TEXT, TRUTH, WEIGHTS,
-                                 Key)
+from rehearse_tools.keys import (ITEMS, NUMBER, NUMBER_OR_NUMBERS, NUMBERS, QUANTILES, REQUIRED, STRETCHES, TABLES, TEXT,
+                                 TEXT_OR_TEXTS, TRUTH, WEIGHTS, Key)
 
 SOURCES = os.path.join(ROOT, "crates", "sim_scenario", "src")
 # A function of a file, or of an implementation of a trait for a type.
@@ -21,15 +21,20 @@ READ = re.compile(
     r'\btime\(\s*"(\w+)",\s*"(\w+)",\s*"(\w+)",\s*section,?\s*\)|'
     r'\b(queue_list|kind|policy|latency|sending|forward|calls|stopping|failing|serving|outages|'
     r'stretches_by|one_stretch|groups)\(')
-# What the two bounds of a time and the pairs of its quantiles have at most, and how many pairs there are.
+# What the two bounds of a time have at most, and how many items a list has.
 TIME = re.compile(r'section\.bounds\(low, high, ([\d_]+)\)')
-PAIRS = re.compile(r'list_of\(section, value, key, ([\d_]+), ([\d_]+), &Pair\)')
+ITEMS_IN = re.compile(r'list_of\(section, value, key, ([\d_]+), ([\d_]+), &\w+\)')
+# One chance of all outages, or one of each: its range, and its default.
+CHANCES = re.compile(r'fn one_for_all.*?Integer\(([\d_]+), ([\d_]+)\).*?unwrap_or\(([\d_]+)\)', re.DOTALL)
 LIST = re.compile(r'(?:_KEYS: &\[&str\] = &\[|&\[)((?:\s*"\w+",?)+)\s*\]')
 # The words of each list that a key's value may be one of.
 WORDS = {"SCOPES": ("queue", "group"), "KINDS": ("script", "producer", "consumer"), "FAILURES": ("each", "whole"),
          "SERVINGS": ("each", "once"), "JITTERS": ("none", "full")}
 # The keys whose values are the least values of others, by their names in the code; each may be 0.
 LEAST = {"start": "start_ms", "from": "fails_from_ms"}
+# The types of values that are lists, by what the tables call them, with the files that read them.
+LISTS_OF = {"WeightedGroups": (WEIGHTS, "groups.rt"), "Stretches": (STRETCHES, "outages.rt"),
+            "KinQueues": (TEXT_OR_TEXTS, "named.rt")}
 # The functions that several files use, with their files.
 SHARED = {"latency": "queues.rt", "stopping": "producers.rt", "outages": "outages.rt", "stretches_by": "outages.rt",
           "one_stretch": "outages.rt"}
@@ -65,6 +70,13 @@ def default_of(how: str, type_: str, text: str | None) -> int | str | None:
 
 def key_of(how: str, name: str, type_: str, bounds: str | None, text: str | None) -> Key:
     default = default_of(how, type_, text)
+    if type_ in LISTS_OF:
+        kind, file = LISTS_OF[type_]
+        return Key(name, kind, *items_in(file), default=default)
+    if name == "fails_permille":
+        chances = CHANCES.search(text_at(SOURCES, "outages.rt"))
+        assert chances
+        return Key(name, NUMBER_OR_NUMBERS, *map(number, chances.groups()))
     if type_ == "Boolean":
         return Key(name, TRUTH, default=default)
     words = [bound.strip() for bound in (bounds or "").split(",")]
@@ -72,10 +84,6 @@ def key_of(how: str, name: str, type_: str, bounds: str | None, text: str | None
     if type_ == "Integers":
         assert ITEMS[name] == (numbers[2], numbers[3]), name
         return Key(name, NUMBERS, numbers[0], numbers[1])
-    if type_ == "WeightedGroups":
-        return Key(name, WEIGHTS, *pairs_in("groups.rt"), default=default)
-    if type_ == "Stretches":
-        return Key(name, STRETCHES, *pairs_in("outages.rt"), default=default)
     if type_ == "SizedText":
         return Key(name, TEXT, numbers[0], numbers[1], default)
     if type_ not in ("Integer", "Seconds"):
@@ -84,18 +92,18 @@ def key_of(how: str, name: str, type_: str, bounds: str | None, text: str | None
     return Key(name, NUMBER, 0 if least else numbers[0], numbers[1], default, least=least)
 
 
-def pairs_in(file: str) -> tuple[int | None, int | None]:
-    """How many pairs the list has that a file reads."""
-    pairs = PAIRS.search(text_at(SOURCES, file))
-    assert pairs
-    return number(pairs[1]), number(pairs[2])
+def items_in(file: str) -> tuple[int | None, int | None]:
+    """How many items the list has that a file reads."""
+    items = ITEMS_IN.search(text_at(SOURCES, file))
+    assert items
+    return number(items[1]), number(items[2])
 
 
 def times_of(quantiles: str, low: str, high: str) -> Iterator[Key]:
     """The keys of a time: quantiles, or two bounds."""
     most = TIME.search(text_at(SOURCES, "distributions.rt"))
     assert most
-    yield Key(quantiles, QUANTILES, *pairs_in("distributions.rt"))
+    yield Key(quantiles, QUANTILES, *items_in("distributions.rt"))
     yield Key(low, NUMBER, 1, number(most[1]), REQUIRED)
     yield Key(high, NUMBER, 1, number(most[1]), REQUIRED, least=low)
 

@@ -15,6 +15,7 @@ from types import SimpleNamespace
 from typing import NoReturn
 
 from tool import TOOLS, ToolCase, needs_program, wait_for
+from scenario_texts import consumer, producer, queue_of, scenario_of, table
 from rehearse_tools import clusters
 from rehearse_tools.console import Fault
 from rehearse_tools.jobs import scripts_of
@@ -22,31 +23,9 @@ from rehearse_tools.variants import Given, Settings, Sweep
 
 SCHEDULER, WORKER = shutil.which("dask-scheduler"), shutil.which("dask-worker")
 needs_dask = unittest.skipUnless(SCHEDULER and WORKER, "Dask is not here: apt-get install python3-distributed")
-SCENARIO = """version = 1
-horizon = 3600000
-[[queue]]
-name = "q"
-visibility_s = 30
-[[actor]]
-name = "shop"
-kind = "producer"
-queue = "q"
-count = 10000
-gap_min_ms = 1
-gap_max_ms = 600
-body = "m"
-[[actor]]
-name = "worker"
-kind = "consumer"
-queue = "q"
-service_min_ms = 1
-service_max_ms = 600
-[[actor]]
-name = "operator"
-kind = "script"
-queue = "q"
-script = "calls.csv"
-"""
+SCENARIO = scenario_of(3_600_000, queue_of("q", visibility_s=30), producer("shop", "q", 10_000, (1, 600)),
+                    consumer("worker", "q", (1, 600)), table("actor", name="operator", kind="script", queue="q",
+                                                             script="calls.csv"))
 CALLS = "at,call,body,group,id,delay,receipt,max,wait,timeout,task\n1000,send,hello,,,,,,,,\n"
 ROWS_BEFORE_THE_END = 6
 

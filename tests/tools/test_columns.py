@@ -12,6 +12,7 @@ from typing import Any
 
 from test_runs import OVERLOADED, random_scenario
 from tool import HEADER, PROGRAM, ToolCase, ended, needs_program, printed
+from scenario_texts import consumer, producer, queue_of, scenario_of, script, task
 from rehearse_tools.figures import COLUMNS as OF_FIGURES
 from rehearse_tools.figures import Figures
 from rehearse_tools.requirements import Requirement
@@ -41,35 +42,9 @@ TEXT = ended(HEADER + ROWS, "final,a,m-0-3,o-0-3,visible,,9000,0,,x\n")
 
 
 # The scenario of this log, as far as a log is read by it.
-SCENARIO = """version = 1
-horizon = 20000
-[[queue]]
-name = "a"
-dead_letter = "d"
-max_receives = 1
-latency_ms = 20
-[[queue]]
-name = "d"
-[[actor]]
-name = "shop"
-kind = "script"
-queue = "a"
-calls = '''
-at,call,body,group,id,delay,receipt,max,wait,timeout,task
-1,send,x,,,,,,,,
-'''
-[[actor]]
-name = "w"
-kind = "consumer"
-queue = "a"
-service_min_ms = 1
-service_max_ms = 1
-[[task]]
-name = "back"
-queue = "d"
-to = "a"
-latency_ms = 1
-"""
+SCENARIO = scenario_of(20_000, queue_of("a", dead_letter="d", max_receives=1, latency_ms=20), queue_of("d"),
+                    script("shop", "a", "1,send,x,,,,,,,,"), consumer("w", "a", 1),
+                    task("back", "d", to="a", latency_ms=1))
 
 
 @needs_program
@@ -186,30 +161,11 @@ class Sweeps(ToolCase):
     def test_consumers_of_version_3(self) -> None:
         """Two copies serve four messages of a second each, two of them at once. What one holds that gathers messages is
         not known, so how busy it is has no number."""
-        for key, busy in (("copies = 2", "20"), ("gather_ms = 0", "40"), ("gather_ms = 1", "")):
-            scenario = self.write("s.toml", f"""version = 3
-horizon = 9999
-[[queue]]
-name = "q"
-[[actor]]
-name = "shop"
-kind = "producer"
-queue = "q"
-count = 4
-gap_min_ms = 1
-gap_max_ms = 1
-body = "m"
-[[actor]]
-name = "c"
-kind = "consumer"
-queue = "q"
-start_ms = 10
-service_min_ms = 1000
-service_max_ms = 1000
-{key}
-""")
-            status, out, _ = self.run_tool("sweep", "--preview", scenario, "--vary", "seed=1", "--columns", "busy")
-            with self.subTest(key=key):
+        for key, number, busy in ("copies", 2, "20"), ("gather_ms", 0, "40"), ("gather_ms", 1, ""):
+            path = self.write("s.toml", scenario_of(9_999, queue_of("q"), producer("shop", "q", 4, 1), consumer(
+                "c", "q", 1_000, start_ms=10, **{key: number}), version=3))
+            status, out, _ = self.run_tool("sweep", "--preview", path, "--vary", "seed=1", "--columns", "busy")
+            with self.subTest(key=key, number=number):
                 self.assertEqual((status, out.splitlines()[1].split(",")[-1]), (0, busy))
 
     def test_columns(self) -> None:

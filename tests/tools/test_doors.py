@@ -9,6 +9,7 @@ import random
 import unittest
 
 from tool import HEADER, ToolCase, needs_program, printed, text_at
+from scenario_texts import between, consumer, producer, queue_of, scenario_of, script, task
 from rehearse_tools.doors import Doors
 from rehearse_tools.logs import Rows
 from rehearse_tools.replay import ignored
@@ -29,39 +30,9 @@ CHAIN = HEADER + """100,a,shop,send,new,m-0-0,,x
 9000,b,v,receive,ok,m-1-0,r-1-0-1,o-1-0
 9300,b,v,delete,deleted,m-1-0,r-1-0-1,3900
 """
-STEADY = """version = 1
-horizon = 60000
-[[queue]]
-name = "a"
-[[queue]]
-name = "b"
-[[actor]]
-name = "w"
-kind = "consumer"
-queue = "a"
-wait_s = 20
-idle_ms = 1
-service_min_ms = 1000
-service_max_ms = 1000
-forward = "b"
-latency_ms = 500
-[[actor]]
-name = "v"
-kind = "consumer"
-queue = "b"
-wait_s = 20
-idle_ms = 1
-service_min_ms = 1000
-service_max_ms = 1000
-[[actor]]
-name = "shop"
-kind = "producer"
-queue = "a"
-count = 5
-gap_min_ms = 5000
-gap_max_ms = 5000
-body = "m"
-"""
+STEADY = scenario_of(60_000, queue_of("a"), queue_of("b"),
+                  consumer("w", "a", 1_000, wait_s=20, idle_ms=1, forward="b", latency_ms=500),
+                  consumer("v", "b", 1_000, wait_s=20, idle_ms=1), producer("shop", "a", 5, 5_000))
 
 
 def two_forwards(first_out: int, second_out: int, first_in: int, second_in: int) -> str:
@@ -105,6 +76,18 @@ class ByHand(ToolCase):
                 self.assertEqual(doors.open_of("b"), (number, ["w"] if number else []))
                 self.assertEqual(doors.ages_of("b"), {2_000: 1, 2_999: 1})
                 self.assertEqual(doors.columns("b")["door_age_max"], None if number else 2_999)
+
+    def test_forwards_of_one_message(self) -> None:
+        """It goes to b twice and to c, where it comes after other times: both know when it was first sent."""
+        rows = ["0,a,shop,send,new,m-0-0,,x", "2,a,w,receive,ok,m-0-0,r-0-0-1,o-0-0",
+                *(f"9,a,w,forward,out,m-0-0,,{to}" for to in "bcb"), "9,a,w,delete,deleted,m-0-0,r-0-0-1,9"]
+        for queue, site, message, at in (("c", 2, 0, 30), ("b", 1, 0, 50), ("b", 1, 1, 80)):
+            rows += [f"{at},{queue},w,arrive,new,m-{site}-{message},,o-{site}-{message}",
+                     f"{at},{queue},v,receive,ok,m-{site}-{message},r-{site}-{message}-1,o-{site}-{message}",
+                     f"{at + 10},{queue},v,delete,deleted,m-{site}-{message},r-{site}-{message}-1,10"]
+        doors = doors_of(HEADER + "\n".join([*rows, ""]))
+        self.assertEqual([doors.open_of(queue) for queue in "bc"], [(0, []), (0, [])])
+        self.assertEqual([doors.ages_of(queue) for queue in "bc"], [{60: 1, 90: 1}, {40: 1}])
 
     def test_a_forward_that_comes_as_a_repeat(self) -> None:
         """The second of three is a repeat in b, so the third is that of 9 ms, which is deleted 2,991 ms later."""
@@ -159,21 +142,15 @@ def chain(seed: int) -> str:
     chance = random.Random(seed)
     least = chance.choice([1, 100])
     greatest = least + chance.choice([0, 30, 1_000])
-    latency = f"latency_min_ms = {least}\nlatency_max_ms = {greatest}\n"
-    parts = [f"version = 2\nhorizon = 60000\nseed = {seed}\n",
-             f'[[queue]]\nname = "a"\nvisibility_s = {chance.choice([2, 30])}\ndead_letter = "d"\nmax_receives = 3\n'
-             f'{latency}[[queue]]\nname = "b"\n[[queue]]\nname = "d"\n',
-             '[[actor]]\nname = "shop"\nkind = "producer"\nqueue = "a"\ncount = 200\ngap_min_ms = 1\ngap_max_ms = 200\n'
-             'body = "{n}"\n']
+    latency = between("latency", (least, greatest))
+    tables = [queue_of("a", visibility_s=chance.choice([2, 30]), dead_letter="d", max_receives=3, **latency), queue_of("b"),
+              queue_of("d"), producer("shop", "a", 200, (1, 200), "{n}")]
     for number in range(chance.randint(1, 3)):
         service = chance.choice([5, 200])
-        parts.append(f'[[actor]]\nname = "w{number}"\nkind = "consumer"\nqueue = "a"\nbatch = {chance.randint(1, 10)}\n'
-                     f'service_min_ms = {service}\nservice_max_ms = {3 * service}\nforward = "b"\nfail_permille = 100\n'
-                     + latency)
-    parts.append('[[task]]\nname = "t"\nqueue = "d"\nto = "a"\nper_second = 50\n' + latency)
-    parts.append('[[actor]]\nname = "op"\nkind = "script"\nqueue = "d"\ncalls = """\n'
-                 'at,call,body,group,id,delay,receipt,max,wait,timeout,task\n20000,start,,,,,,,,,t\n"""\n')
-    return "".join(parts)
+        tables.append(consumer(f"w{number}", "a", (service, 3 * service), batch=chance.randint(1, 10), forward="b",
+                               fail_permille=100, **latency))
+    return scenario_of(60_000, *tables, task("t", "d", to="a", per_second=50, **latency),
+                    script("op", "d", "20000,start,,,,,,,,,t"), version=2, seed=seed)
 
 
 class MayStillCome(unittest.TestCase):
@@ -269,9 +246,8 @@ class Sweeps(ToolCase):
 
     def test_a_way_that_no_message_went(self) -> None:
         """The scenario has a way from c to b by a dead-letter queue and its task, which the log does not show."""
-        more = ('[[queue]]\nname = "c"\ndead_letter = "d"\nmax_receives = 1\nlatency_ms = 9\n[[queue]]\nname = "d"\n'
-                '[[actor]]\nname = "late"\nkind = "producer"\nqueue = "c"\ncount = 3\ngap_min_ms = 1\n'
-                'gap_max_ms = 1\nbody = "m"\n[[task]]\nname = "t"\nqueue = "d"\nto = "b"\nlatency_ms = 9\n')
+        more = (queue_of("c", dead_letter="d", max_receives=1, latency_ms=9) + queue_of("d") + producer("late", "c", 3, 1)
+                + task("t", "d", to="b", latency_ms=9))
         for text, status in ((STEADY, 0), (STEADY + more, 1)):
             ran = self.run_tool("sweep", self.write("s.toml", text), "--require", "b.door_age_p95<3s")
             self.assertEqual(ran[0], status, ran[2])

@@ -131,6 +131,32 @@ REASONS_OF_3 = (
     (SERVED + "fails_between_ms = [5]\n", "13 WrongType at actor[0].fails_between_ms[0]", "11:21",
      "Item number 1 of fails_between_ms of the consumer packer is 5, and has to be a pair of two whole numbers, as "
      "[600000, 1800000]."),
+    (SERVED + "fails_between_ms = [[1, 2], [3, 4]]\nfails_permille = [5]\n", "14 OutOfRange at actor[0].fails_permille",
+     "12:18", "fails_permille of the consumer packer has 1 item, and fails_between_ms 2 pairs. Each pair has one number."),
+    (SERVED + "fails_between_ms = [[1, 2]]\nfails_permille = [1001]\n", "14 OutOfRange at actor[0].fails_permille[0]",
+     "12:19", "Item number 1 of fails_permille of the consumer packer is 1001. It has 0 to 1,000."),
+    (SERVED + "fails_between_ms = [[1, 2]]\nfails_permille = 1001\n", "14 OutOfRange at actor[0].fails_permille",
+     "12:18", "fails_permille of the consumer packer is 1001. It has 0 to 1,000, and 1,000 where it is not given."),
+    (SERVED + "fails_from_ms = 1\nfails_to_ms = 2\nfails_permille = [5]\n", "13 WrongType at actor[0].fails_permille",
+     "13:18", "fails_permille of the consumer packer is a list, which stands only beside fails_between_ms."),
+    (SERVED + 'forward = ["orders", "ordres"]\n', "17 UnknownQueue at actor[0].forward[1]", "11:22",
+     "Item number 2 of forward of the consumer packer is ordres, and there is no queue of this name. Did you mean "
+     "orders?"),
+    (SERVED + 'forward = ["d.fifo"]\n[[queue]]\nname = "d.fifo"\n',
+     "18 KindMismatch at actor[0].forward[0]", "11:12",
+     "Item number 1 of forward of the consumer packer is d.fifo, a FIFO queue, and orders is a standard queue; both have "
+     "to be of one kind."),
+    (SERVED + "forward = []\n", "14 OutOfRange at actor[0].forward", "11:11",
+     "forward of the consumer packer has 0 items. It has 1 to 10 texts if it is a list."),
+    (SERVED + f"forward = {['orders'] * 11}\n", "19 TooMany at actor[0].forward", "11:11",
+     "forward of the consumer packer has 11 items. It has 1 to 10 texts if it is a list."),
+    (SERVED + 'forward = ["orders", 5]\n', "13 WrongType at actor[0].forward[1]", "11:22",
+     "Item number 2 of forward of the consumer packer is 5, and has to be a text."),
+    (SERVED + "forward = 5\n", "13 WrongType at actor[0].forward", "11:11",
+     "forward of the consumer packer is a whole number, and has to be a text or a list of texts. It has 1 to 10 texts if "
+     "it is a list."),
+    (SERVED.replace("= 3\n", "= 2\n", 1) + 'forward = ["orders"]\n', "13 WrongType at actor[0].forward", "11:11",
+     "forward of the consumer packer is a list, which is of version 3."),
     (SERVED + "fails_permille = 5\n", "11 UnknownKey at actor[0].fails_permille", "11:1",
      "fails_permille stands only together with fails_from_ms or fails_between_ms, which the consumer packer does not "
      "have."),

@@ -13,6 +13,7 @@ import unittest
 from test_runs import random_scenario
 from test_summary import LOG, PARTS
 from tool import PROGRAM, ROOT, ToolCase, needs_program, printed, text_at
+from scenario_texts import consumer, queue_of, scenario_of, script
 from rehearse_tools import runs
 from rehearse_tools.figures import AGES, COLUMNS, OF_QUEUE, Figures
 from rehearse_tools.scenarios import consumers_of, names_of, parsed
@@ -54,47 +55,10 @@ FIGURES += "figure,a,backlog_since_ms,\nfigure,d,backlog_since_ms,7\n"
 # Three messages wait from 2 ms on. The consumer slow is busy from 1000 to 3500 ms; quick is from 1100 to 1600 ms, and
 # from the next millisecond on, to 2101 ms. So two are in flight at 1100 ms, and q has two from 1600 ms on. The queue
 # idle has no consumer, but an actor of another kind.
-SCENARIO = '''version = 1
-horizon = 9999
-[[queue]]
-name = "q"
-[[queue]]
-name = "idle"
-[[actor]]
-name = "shop"
-kind = "script"
-queue = "q"
-calls = """
-at,call,body,group,id,delay,receipt,max,wait,timeout,task
-0,send,a,,,,,,,,
-1,send,b,,,,,,,,
-2,send,c,,,,,,,,
-"""
-[[actor]]
-name = "desk"
-kind = "script"
-queue = "idle"
-calls = """
-at,call,body,group,id,delay,receipt,max,wait,timeout,task
-5000,receive,,,,,,1,,,
-"""
-[[actor]]
-name = "slow"
-kind = "consumer"
-queue = "q"
-start_ms = 1000
-service_min_ms = 2500
-service_max_ms = 2500
-idle_ms = 86400000
-[[actor]]
-name = "quick"
-kind = "consumer"
-queue = "q"
-start_ms = 1100
-service_min_ms = 500
-service_max_ms = 500
-idle_ms = 86400000
-'''
+SCENARIO = scenario_of(
+    9_999, queue_of("q"), queue_of("idle"), script("shop", "q", *(f"{at},send,{body},,,,,,,," for at, body in enumerate("abc"))),
+    script("desk", "idle", "5000,receive,,,,,,1,,,"), consumer("slow", "q", 2_500, start_ms=1_000, idle_ms=86_400_000),
+    consumer("quick", "q", 500, start_ms=1_100, idle_ms=86_400_000))
 NAMES = "depth_max_at_ms,in_flight_max,in_flight_max_at_ms,received_again,tries_max,busy"
 
 

@@ -337,6 +337,80 @@ class FromPlan(ToolCase):
             self.assertIn("from-plan: aws_lambda_event_source_mapping.elsewhere is left out: ", err)
             self.assertNotIn("work: it does not report", err)
 
+    def topic(self, subscribed, more=(), **of_topic):
+        """What is made with --preview of queues that are subscribed to a topic, each with what its subscription has
+        besides; `more` are other queues."""
+        resources = [resource(f"aws_sqs_queue.{name}", name=name, fifo_queue=name.endswith(".fifo"))
+                     for name in (*subscribed, *more)]
+        resources += [resource(f"aws_sns_topic_subscription.to_{number}", of="aws_sns_topic_subscription", protocol="sqs",
+                               endpoint=ARN + name, **{"topic_arn": "arn:aws:sns:x:1:news", **of_topic, **own})
+                      for number, (name, own) in enumerate(subscribed.items())]
+        path = self.write("given", json.dumps({"values": {"root_module": {"resources": resources}}}))
+        status, out, err = self.run_tool("from-plan", path, "--preview", "--latency", "30")
+        self.assertEqual(status, 0, err)
+        scenario = toml_of(out)
+        return {actor["queue"]: actor["forward"] for actor in scenario["actor"] if "forward" in actor}, scenario, err
+
+    def test_a_topic_of_several_queues(self):
+        """It is a queue, to which its sender sends; its consumer forwards to all queues, to which nobody else sends."""
+        forwards, scenario, err = self.topic({"bill": {}, "ship": {}}, more=["other"])
+        self.assertEqual(forwards, {"news": ["bill", "ship"]})
+        self.assertEqual([queue["name"] for queue in scenario["queue"]], ["bill", "ship", "other", "news"])
+        self.assertEqual([(actor["name"], actor["kind"], actor["queue"]) for actor in scenario["actor"]], [
+            ("bill-worker", "consumer", "bill"), ("ship-worker", "consumer", "ship"),
+            ("other-sender", "producer", "other"), ("other-worker", "consumer", "other"),
+            ("news-sender", "producer", "news"), ("news-sends", "consumer", "news")])
+        sends = scenario["actor"][-1]
+        self.assertEqual([sends[key] for key in ("batch", "wait_s", "service_min_ms", "service_max_ms", "latency_min_ms",
+                                                 "latency_max_ms")], [10, 20, 1, 1, 30, 30])
+        self.assertIn("from-plan: news: DEFAULT: latency_min_ms and latency_max_ms of 30, how long that takes", err)
+
+    def test_topics_that_are_no_queue(self):
+        """One queue, more than ten, queues of both kinds, and one that a filter keeps some messages from."""
+        many = {f"q{number}": {} for number in range(11)}
+        for subscribed, wanted in (({"a": {}}, {}), (many, {}), ({"a": {}, "b.fifo": {}}, {}),
+                                   ({"a": {"filter_policy": "{}"}, "b": {}}, {}),
+                                   ({"a": {"filter_policy": "{}"}, "b": {}, "c": {}}, {"news": ["b", "c"]}),
+                                   ({"a": {}, "b": {"topic_arn": "arn:aws:sns:x:1:other"}}, {}),
+                                   (dict(list(many.items())[:10]), {"news": list(many)[:10]})):
+            forwards, scenario, _ = self.topic(subscribed)
+            self.assertEqual(forwards, wanted)
+            sent = {actor["queue"] for actor in scenario["actor"] if actor["kind"] == "producer"}
+            behind = [name for names in wanted.values() for name in names]
+            self.assertEqual(sent, (set(subscribed) | set(wanted)) - set(behind))
+
+    def test_names_of_topics(self):
+        for topic, queues, name in (("news.fifo", ["a.fifo", "b.fifo"], "news.fifo"), ("a", ["a", "b"], "a-topic"),
+                                    ("a.fifo", ["a.fifo", "b.fifo"], "a-topic.fifo"), ("n!", ["a", "b"], "n--topic"),
+                                    ("n" * 99, ["a", "b"], f"{'n' * 74}-topic")):
+            forwards, _, _ = self.topic(dict.fromkeys(queues, {}), topic_arn=f"arn:aws:sns:x:1:{topic}")
+            self.assertEqual(forwards, {name: queues})
+
+    def test_topics_that_a_plan_or_a_template_refers_to(self):
+        """Two subscriptions are of one topic if they refer to the same, in a loop for the same key."""
+        queues = [resource(f"aws_sqs_queue.{name}", name=name) for name in "abcd"]
+        subscriptions = [resource(f"aws_sns_topic_subscription.{own}", of="aws_sns_topic_subscription", protocol="sqs",
+                                  endpoint=ARN + name)
+                         for own, name in (("one", "a"), ("two", "b"), ('each["x"]', "c"), ('each["y"]', "d"))]
+        known = {"one": ["aws_sns_topic.t.arn", "aws_sns_topic.t"], "two": ["aws_sns_topic.t.arn", "aws_sns_topic.t"],
+                 "each": ["aws_sns_topic.u", "each.key"]}
+        plan = {"planned_values": {"root_module": {"resources": queues + subscriptions}},
+                "configuration": {"root_module": {"resources": [
+                    configured(f"aws_sns_topic_subscription.{name}", topic_arn=found) for name, found in known.items()]}}}
+        template = {"Resources": {
+            **{name.upper(): {"Type": "AWS::SQS::Queue", "Properties": {"QueueName": name}} for name in "abc"},
+            "t": {"Type": "AWS::SNS::Topic", "Properties": {"Subscription": [
+                {"Protocol": "sqs", "Endpoint": {"Fn::GetAtt": ["A", "Arn"]}}]}},
+            "S": {"Type": "AWS::SNS::Subscription", "Properties": {
+                "Protocol": "sqs", "TopicArn": {"Ref": "t"}, "Endpoint": {"Fn::GetAtt": ["B", "Arn"]}}},
+            "Other": {"Type": "AWS::SNS::Subscription", "Properties": {
+                "Protocol": "sqs", "TopicArn": {"Ref": "u"}, "Endpoint": {"Fn::GetAtt": ["C", "Arn"]}}}}}
+        for given in plan, template:
+            status, out, err = self.run_tool("from-plan", self.write("given", json.dumps(given)), "--preview")
+            self.assertEqual(status, 0, err)
+            self.assertEqual({actor["queue"]: actor["forward"] for actor in toml_of(out)["actor"] if "forward" in actor},
+                             {"t": ["a", "b"]})
+
     def test_mappings_in_version_3(self):
         """By main.tf the function of orders reports batch item failures, and that of audit does not."""
         path = os.path.join(HERE, "plans", "wiring", "plan.json")

@@ -15,6 +15,7 @@ from rehearse_tools import explain
 from rehearse_tools.console import read_text
 from rehearse_tools.programs import TOP
 from stored_cases import REFUSED, stored
+from scenario_texts import consumer, producer, queue_of, scenario_of, table, task
 
 PAGE = ("scenario", "faults", "side", "link")
 SEEDS = ("edits", "seeds")
@@ -23,31 +24,6 @@ NUMBERS = ("numbers",)
 ANSWER = ("scenario", "answer")
 # Refusals that the module does not give: it splits no run, starts no thread, and writes to memory alone.
 NOT_OF_THE_PAGE = ("WindowTooLong", "BadMap", "BadWorkers", "NoWorker", "Write")
-POLLS = """version = 1
-horizon = {horizon}
-[[queue]]
-name = "q"
-[[actor]]
-name = "c"
-kind = "consumer"
-queue = "q"
-idle_ms = {idle}
-service_min_ms = 1
-service_max_ms = 1
-"""
-SENDS = """version = 1
-horizon = {horizon}
-[[queue]]
-name = "q"
-[[actor]]
-name = "p"
-kind = "producer"
-queue = "q"
-count = {count}
-gap_min_ms = 1
-gap_max_ms = {gap}
-body = "b"
-"""
 # Packs JSON into a link of a form, without the bounds of the page.
 PACKED = """
 const packed = async (form, what) => {
@@ -59,6 +35,14 @@ const packed = async (form, what) => {
 DAMAGED = "This link is cut or damaged: what it held cannot be shown."
 LATER = "This link is of a later version of the page: what it holds cannot be shown."
 LARGE = "This link holds more than 1 MB, which this page does not unpack: what it holds cannot be shown."
+
+
+def polls(horizon: int, idle: int) -> str:
+    return scenario_of(horizon, queue_of("q"), consumer("c", "q", 1, idle_ms=idle))
+
+
+def sends(horizon: int, count: int, gap: int) -> str:
+    return scenario_of(horizon, queue_of("q"), producer("p", "q", count, (1, gap), "b"))
 
 
 @unittest.skipUnless(shutil.which("node"), "node is not here")
@@ -144,15 +128,15 @@ class Parts(ToolCase):
         script = '[[actor]]\nkind = "script"\nscript = "a.csv"\n'
         cases = (
             ("a" * 200_000, ""), ("a" * 200_001, long), ("\n" * 4_999, ""), ("\n" * 5_000, long),
-            (POLLS.format(horizon=2_000_000, idle=1), ""),
-            (POLLS.format(horizon=2_000_001, idle=1), many.format("2,000,001")),
-            (POLLS.format(horizon=2_592_000_000, idle=2_000), ""),
-            (POLLS.format(horizon=1_000_000, idle=1) + "copies = 2\n", ""),
-            (POLLS.format(horizon=1_000_001, idle=1) + "copies = 2\n", many.format("2,000,002")),
-            (POLLS.format(horizon=2_592_000_000, idle=1), many.format("2,592,000,000")),
-            (SENDS.format(horizon=2_000_000_000, count=500_000, gap=1), ""),
-            (SENDS.format(horizon=2_000_000_000, count=500_001, gap=1), many.format("2,000,004")),
-            (SENDS.format(horizon=1_000, count=1_000_000, gap=1), ""), (SENDS.format(horizon=1, count=9, gap=0), ""),
+            (polls(horizon=2_000_000, idle=1), ""),
+            (polls(horizon=2_000_001, idle=1), many.format("2,000,001")),
+            (polls(horizon=2_592_000_000, idle=2_000), ""),
+            (polls(horizon=1_000_000, idle=1) + "copies = 2\n", ""),
+            (polls(horizon=1_000_001, idle=1) + "copies = 2\n", many.format("2,000,002")),
+            (polls(horizon=2_592_000_000, idle=1), many.format("2,592,000,000")),
+            (sends(horizon=2_000_000_000, count=500_000, gap=1), ""),
+            (sends(horizon=2_000_000_000, count=500_001, gap=1), many.format("2,000,004")),
+            (sends(horizon=1_000, count=1_000_000, gap=1), ""), (sends(horizon=1, count=9, gap=0), ""),
             (20 * script, ""), (21 * script, many.format("2,100,000")), ("no TOML", ""), ("", ""))
         told = self.asked(PAGE, """const files = [{ name: 'a.csv', bytes: { length: 400000 } }];
             return values[0].map(text => Object.assign(new Side('A', () => {}), { text, files }).whyWaits);""",
@@ -292,39 +276,16 @@ class Parts(ToolCase):
 
     def test_queues_for_dead_letters(self) -> None:
         """Only dead letters come to a queue by the scenario, whether one came or not, if nobody sends or forwards to it."""
-        queues = ''.join(f"""[[queue]]
-name = "{name}"
-{f'dead_letter = "{dead}"' if dead else ''}
-""" for name, dead in (("a", "dead"), ("dead", ""), ("b", "again"), ("again", ""), ("c", "next"), ("next", "dead"),
-                       ("d", "moved"), ("moved", ""), ("e", "asked"), ("asked", ""), ("f", "told"), ("told", ""),
-                       ("g", "filed"), ("filed", "")))
-        actors = """[[actor]]
-kind = "producer"
-queue = "again"
-[[actor]]
-kind = "consumer"
-queue = "dead"
-[[actor]]
-kind = "consumer"
-queue = "a"
-forward = "next"
-[[actor]]
-kind = "script"
-queue = "asked"
-calls = """ + "\'\'\'\nat,call,body\n5,receive,\n9,delete,send\n\'\'\'" + """
-[[actor]]
-kind = "script"
-queue = "told"
-calls = "at,call,body\\n5,send,a\\n"
-[[actor]]
-kind = "script"
-queue = "filed"
-script = "calls.csv"
-[[task]]
-queue = "dead"
-to = "moved"
-"""
-        told = self.asked(ANSWER, "return [...new Set(forDeadLetters(new Scenario(values[0])))];", queues + actors)
+        pairs = [("a", "dead"), ("b", "again"), ("c", "next"), ("next", "dead"), ("d", "moved"), ("e", "asked"), ("f", "told"),
+                 ("g", "filed"), ("h", "sent")]
+        text = "".join([
+            *(queue_of(name, dead_letter=dead) for name, dead in pairs), *(queue_of(dead) for _, dead in pairs if dead != "next"),
+            table("actor", kind="producer", queue="again"), table("actor", kind="consumer", queue="dead"),
+            table("actor", kind="consumer", queue="a", forward=["next", "sent"]),
+            table("actor", kind="script", queue="asked", calls="at,call,body\n5,receive,\n9,delete,send\n"),
+            table("actor", kind="script", queue="told", calls="at,call,body\n5,send,a\n"),
+            table("actor", kind="script", queue="filed", script="calls.csv"), table("task", queue="dead", to="moved")])
+        told = self.asked(ANSWER, "return [...new Set(forDeadLetters(new Scenario(values[0])))];", text)
         self.assertEqual(told, ["dead", "asked"])
 
     def test_the_network(self) -> None:
@@ -333,49 +294,26 @@ to = "moved"
         told = self.asked(("scenario", "network"), """
             const { nodes, edges } = networkOf(new Scenario(values[0]));
             return [nodes.map(it => [it.id, it.kind, calledOf(it)]),
-              edges.map(({ from, to, kind, flow }) => [from, to, kind, flow.queue, flow.agents.join(), flow.row])];""",
-                          """version = 3
-[[queue]]
-name = "a"
-dead_letter = "d"
-[[queue]]
-name = "d"
-[[queue]]
-name = "b"
-dead_letter = "b"
-[[actor]]
-name = "p"
-kind = "producer"
-queue = "a"
-[[actor]]
-name = "w-1"
-kind = "consumer"
-queue = "a"
-forward = "b"
-[[actor]]
-name = "w-2"
-kind = "consumer"
-queue = "a"
-forward = "b"
-copies = 2
-[[actor]]
-name = "lost"
-kind = "consumer"
-queue = "none"
-[[actor]]
-kind = "producer"
-queue = "a"
-[[task]]
-name = "t"
-queue = "d"
-""")
+              edges.map(({ from, to, kind, flow }) => [from, to, kind, flow.queue, flow.agents.join(), flow.row]
+                .concat(flow.share ?? []))];""",
+                          "".join([
+                              queue_of("a", dead_letter="d"), queue_of("d"), queue_of("b", dead_letter="b"),
+                              table("actor", name="p", kind="producer", queue="a"),
+                              table("actor", name="w-1", kind="consumer", queue="a", forward="b"),
+                              table("actor", name="w-2", kind="consumer", queue="a", forward="b", copies=2),
+                              table("actor", name="topic", kind="consumer", queue="d", forward=["a", "none", "b", "a"]),
+                              table("actor", name="lost", kind="consumer", queue="none"),
+                              table("actor", kind="producer", queue="a"), task("t", "d")]))
         self.assertEqual(told, [
             [["a", "queue", "a"], ["d", "dead", "d"], ["b", "queue", "b"], ["producer a ", "producer", "p"],
-             ["consumer a b", "consumer", "w × 3"], ["task t", "task", "t"]],
+             ["consumer a b", "consumer", "w × 3"], ["consumer d a none b a", "consumer", "topic"], ["task t", "task", "t"]],
             [["a", "d", "dead", "a", "a", "redrive,out"], ["b", "b", "dead", "b", "b", "redrive,out"],
              ["producer a ", "a", "send", "a", "p", "send,new"],
              ["a", "consumer a b", "receive", "a", "w-1,w-2-1,w-2-2", "receive,ok"],
-             ["consumer a b", "b", "forward", "a", "w-1,w-2-1,w-2-2", "forward,out"],
+             ["consumer a b", "b", "forward", "a", "w-1,w-2-1,w-2-2", "forward,out", 1],
+             ["d", "consumer d a none b a", "receive", "d", "topic", "receive,ok"],
+             ["consumer d a none b a", "a", "forward", "d", "topic", "forward,out", 0.5],
+             ["consumer d a none b a", "b", "forward", "d", "topic", "forward,out", 0.25],
              ["d", "task t", "move", "d", "t", "move,out"], ["task t", "a", "move", "d", "t", "move,out"]]])
 
     def test_numbers_at_moments(self) -> None:

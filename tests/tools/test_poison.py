@@ -18,42 +18,12 @@ import unittest
 from collections.abc import Callable, Iterator
 
 from tool import PROGRAM, needs_program
+from scenario_texts import consumer, producer, queue_of, scenario_of
 
 SEEDS = range(1, 31)
 COUNT, EVERY, SERVERS, BATCH, TIMEOUT, RECEIVES = 18_000, 1_000, 8, 10, 60_000, 3
 POISON = COUNT // EVERY
-SCENARIO = """version = 3
-horizon = 7200000
-seed = {seed}
-[[queue]]
-name = "q"
-visibility_s = 60
-dead_letter = "d"
-max_receives = 3
-latency_min_ms = 1
-latency_max_ms = 1
-[[queue]]
-name = "d"
-[[actor]]
-name = "p"
-kind = "producer"
-queue = "q"
-count = 18000
-gap_min_ms = 1
-gap_max_ms = {gap}
-body = "{{n}}."
-"""
-LAMBDA = """[[actor]]
-name = "c{number}"
-kind = "consumer"
-queue = "q"
-batch = 10
-wait_s = 20
-service_min_ms = {low}
-service_max_ms = {high}
-fails_on = "999."
-batch_fails = "{fails}"
-"""
+QUEUES = queue_of("q", visibility_s=60, dead_letter="d", max_receives=3, latency_min_ms=1, latency_max_ms=1) + queue_of("d")
 # By its name a load: the greatest gap, and the bounds of a service. An export of a minute and a half, and ten messages
 # a second for servers that are busy for 94 or 47 of 100 seconds.
 EXPORT = "an export"
@@ -183,6 +153,10 @@ class AtOnce:
         return self.dead
 
 
+def text_of(seed: int, gap: int, *actors: str) -> str:
+    return scenario_of(7_200_000, QUEUES, producer("p", "q", COUNT, (1, gap), "{n}."), *actors, version=3, seed=seed)
+
+
 def dead_letters(text: str) -> int:
     """How many messages the program's report of a scenario counts as redriven from the first queue."""
     ran = subprocess.run([str(PROGRAM), "run", "--preview", "--log", os.devnull], input=text.encode(), check=True,
@@ -199,8 +173,9 @@ class Poison(unittest.TestCase):
 
     def ours(self, load: str, fails: str, seeds: range) -> list[int]:
         gap, low, high = LOADS[load]
-        actors = "".join(LAMBDA.format(number=number, low=low, high=high, fails=fails) for number in range(SERVERS))
-        return [dead_letters(SCENARIO.format(seed=seed, gap=gap) + actors) for seed in seeds]
+        actors = [consumer(f"c{number}", "q", (low, high), batch=10, wait_s=20, fails_on="999.", batch_fails=fails)
+                  for number in range(SERVERS)]
+        return [dead_letters(text_of(seed, gap, *actors)) for seed in seeds]
 
     def test_partial_responses_cost_poison_alone(self) -> None:
         for load in LOADS:
@@ -229,10 +204,10 @@ class Poison(unittest.TestCase):
         """The means differ by no more than four of their standard errors. Servers that gather kill more."""
         means = []
         for gather in (0, 1):
-            actors = LAMBDA.format(number="", low=500, high=1_500, fails="whole").replace("999.", "99.") \
-                + f'batch_service = "once"\ncopies = {SERVERS}\nidle_ms = 1\ngather_ms = {gather}\n'
+            actors = consumer("c", "q", (500, 1_500), batch=10, wait_s=20, fails_on="99.", batch_fails="whole",
+                              batch_service="once", copies=SERVERS, idle_ms=1, gather_ms=gather)
             found = [AtOnce(seed, gather > 0).run() for seed in SEEDS[:20]]
-            ours = [dead_letters(SCENARIO.format(seed=seed, gap=199) + actors) for seed in SEEDS[:20]]
+            ours = [dead_letters(text_of(seed, 199, actors)) for seed in SEEDS[:20]]
             mean, our_mean = statistics.mean(found), statistics.mean(ours)
             error = math.sqrt((statistics.variance(found) + statistics.variance(ours)) / len(found))
             with self.subTest(gather=gather):

@@ -29,11 +29,13 @@ VERSION_2 = re.compile(rb"^version = 2$", re.MULTILINE)
 HEAD = 'version = 3\nhorizon = 9\n[[queue]]\nname = "q"\n[[queue]]\nname = "w-1"\n[[queue]]\nname = "f.fifo"\n'
 CONSUMER = HEAD + '[[actor]]\nname = "c"\nkind = "consumer"\nqueue = "q"\n'
 SERVED = CONSUMER + "service_min_ms = 1\nservice_max_ms = 1\n"
+FORWARDED = SERVED + "latency_min_ms = 1\nlatency_max_ms = 9\n"
 PRODUCER = HEAD + '[[actor]]\nname = "p"\nkind = "producer"\nqueue = "q"\ncount = 1\nbody = "m"\n'
 SENT = PRODUCER + "gap_min_ms = 1\ngap_max_ms = 1\n"
 SENT_FIFO = SENT.replace('queue = "q"\ncount', 'queue = "f.fifo"\ncount')
 ANOTHER = SERVED[len(HEAD):]
 BOUNDS = re.compile(r"(gap|service)_min_ms = (\d+)\n\1_max_ms = (\d+)\n")
+BETWEEN = re.compile(r"(fails_between_ms = .*\nfails_permille = )(\d+)\n")
 # Keys that change nothing: what they name does not occur.
 NEUTRAL = {"producer": "stop_ms = 2592000000\n",
            "consumer": 'stop_ms = 2592000000\nfails_on = "in no body"\nfails_from_ms = 7\nfails_to_ms = 7\n'
@@ -69,6 +71,26 @@ FAULTS = [
     (SERVED, "fails_between_ms = []\nfails_to_ms = 2", "11 UnknownKey at actor[0].fails_to_ms"),
     (SERVED, "fails_permille = 5", "11 UnknownKey at actor[0].fails_permille"),
     (SERVED, "fails_between_ms = [[1, 2]]\nfails_permille = 1000", ""),
+    (SERVED, "fails_between_ms = [[1, 2], [3, 4]]\nfails_permille = [0, 1000]", ""),
+    (SERVED, "fails_between_ms = [[1, 2]]\nfails_permille = []", "14 OutOfRange at actor[0].fails_permille"),
+    (SERVED, f"fails_between_ms = {[[1, 2]] * 32}\nfails_permille = {[1.5] * 33}",
+     "14 OutOfRange at actor[0].fails_permille"),
+    (SERVED, "fails_between_ms = [[1, 2], [3, 4]]\nfails_permille = [-1, true]",
+     "14 OutOfRange at actor[0].fails_permille[0]"),
+    (SERVED, "fails_between_ms = [[1, 2], [3, 4]]\nfails_permille = [1, true]",
+     "13 WrongType at actor[0].fails_permille[1]"),
+    (SERVED, "fails_between_ms = [[1, 2], [3]]\nfails_permille = []", "14 OutOfRange at actor[0].fails_between_ms[1]"),
+    (SERVED, "fails_from_ms = 1\nfails_to_ms = 2\nfails_permille = [1]", "13 WrongType at actor[0].fails_permille"),
+    (FORWARDED, 'forward = ["w-1"]', ""),
+    (FORWARDED, f"forward = {['q', 'w-1'] * 5}", ""),
+    (FORWARDED, "forward = []", "14 OutOfRange at actor[0].forward"),
+    (FORWARDED, f"forward = {[1] * 11}", "19 TooMany at actor[0].forward"),
+    (FORWARDED, 'forward = { a = "q" }', "13 WrongType at actor[0].forward"),
+    (FORWARDED, 'forward = ["f.fifo", 1]', "18 KindMismatch at actor[0].forward[0]"),
+    (FORWARDED, 'forward = ["w", "f.fifo"]', "17 UnknownQueue at actor[0].forward[0]"),
+    (FORWARDED, 'forward = ["q", ["q"]]', "13 WrongType at actor[0].forward[1]"),
+    (FORWARDED.replace("latency_min_ms = 1\n", ""), 'forward = ["q", 1]', "13 WrongType at actor[0].forward[1]"),
+    (SERVED, 'forward = ["q"]', "12 MissingKey at actor[0].latency_min_ms"),
     (SERVED, 'batch_service = "all"', "14 OutOfRange at actor[0].batch_service"),
     (SERVED, "batch_service = true", "13 WrongType at actor[0].batch_service"),
     (SERVED, "service_each_ms = 5", "11 UnknownKey at actor[0].service_each_ms"),
@@ -261,6 +283,17 @@ class VersionThree(unittest.TestCase):
             with self.subTest(seed=seed):
                 found = referred(with_neutral_keys(source.decode("utf-8")).encode("utf-8"), 3)
                 self.assertEqual(first_difference(wanted, found), "")
+
+    def test_lists_that_say_what_one_value_says(self):
+        """A list with one queue, and one with the same chance for each outage."""
+        changed = 0
+        for seed, source, wanted in random_texts("version-3"):
+            with self.subTest(seed=seed):
+                text = re.sub(r'forward = ("[^"]*")', r"forward = [\1]", source.decode("utf-8"))
+                text = BETWEEN.sub(lambda it: f"{it[1]}{[int(it[2])] * (it[1].count('], [') + 1)}\n", text)
+                changed += text != source.decode("utf-8")
+                self.assertEqual(first_difference(wanted, referred(text.encode("utf-8"), 3)), "")
+        self.assertGreater(changed, 5)
 
     def test_a_batch_of_one_fails_as_a_whole_or_each(self):
         for seed, source, _ in random_texts("version-3"):

@@ -12,6 +12,7 @@ import unittest
 from html.parser import HTMLParser
 
 from tool import HEADERS, LIMIT, PROGRAM, ROOT, TOOLS, ToolCase, module_of, needs_program, row_of, text_at
+from scenario_texts import producer, queue_of, scenario_of
 from rehearse_tools.console import Fault, check_library
 from rehearse_tools.histories import History
 
@@ -40,24 +41,8 @@ RUN = """at,queue,agent,call,answer,message,receipt,detail
 9000,q,q,expire,expired,m-0-1,,8000
 """ + HEADERS + """report,q,2,0,1,0,1,1,0,0,0,0,0,0,0,0,0,0,0,0,2,0,0,0,2000,2000,2000,2000,2000
 """
-DEAD_LETTERS = """version = 1
-horizon = 1000
-[[queue]]
-name = "q"
-dead_letter = "d"
-max_receives = 1
-latency_ms = 10
-[[queue]]
-name = "d"
-[[actor]]
-name = "p"
-kind = "producer"
-queue = "q"
-count = 1
-gap_min_ms = 1
-gap_max_ms = 1
-body = "m"
-"""
+DEAD_LETTERS = scenario_of(1_000, queue_of("q", dead_letter="d", max_receives=1, latency_ms=10), queue_of("d"),
+                        producer("p", "q", 1, 1))
 STAND_IN = f"""#!{sys.executable} -S
 import sys
 if sys.argv[1:] == ["--help"]:

@@ -15,6 +15,7 @@ from typing import Any
 
 from test_summary import LOG, PARTS, WAYS, cases
 from tool import PROGRAM, ToolCase, needs_program, printed, text_at
+from scenario_texts import consumer, producer, queue_of, scenario_of, script, task
 from rehearse_tools import runs
 from rehearse_tools.requirements import Requirement
 from rehearse_tools.runs import COLUMNS, Ages
@@ -24,25 +25,7 @@ SCENARIOS = 60
 # Columns whose numbers in two halves of a run add up to those of the whole.
 ADDED = [*COLUMNS[:COLUMNS.index("depth_max")], "age_sum"]
 # Three messages a second come in for a worker that does one in three seconds: most are left.
-OVERLOADED = """version = 1
-horizon = 60000
-[[queue]]
-name = "q"
-[[actor]]
-name = "p"
-kind = "producer"
-queue = "q"
-count = 9000
-gap_min_ms = 1
-gap_max_ms = 1999
-body = "m"
-[[actor]]
-name = "c"
-kind = "consumer"
-queue = "q"
-service_min_ms = 2000
-service_max_ms = 4000
-"""
+OVERLOADED = scenario_of(60_000, queue_of("q"), producer("p", "q", 9_000, (1, 1_999)), consumer("c", "q", (2_000, 4_000)))
 
 
 def counts_of(text: str, first: int) -> dict[str, dict[str, str]]:
@@ -52,39 +35,30 @@ def counts_of(text: str, first: int) -> dict[str, dict[str, str]]:
     return {name: dict(zip(COLUMNS, numbers)) for name, *numbers in found[0]}
 
 
-def table(of: str, **keys: Any) -> str:
-    """A table of a scenario's list."""
-    return f"[[{of}]]\n" + "".join(f"{key} = {json.dumps(value)}\n" for key, value in keys.items())
-
-
 def random_scenario(seed: int) -> str:
     """A scenario of two to four queues with dead letters, delays, long polls, forwards, failures and a move task."""
     chance = random.Random(seed)
     end = chance.choice(["", ".fifo"])
     names = [f"q{number}{end}" for number in range(chance.randint(2, 4))]
-    parts = [f"version = 1\nhorizon = {chance.choice([20_000, 90_000])}\nseed = {seed}\n"]
+    horizon, parts = chance.choice([20_000, 90_000]), []
     for number, name in enumerate(names):
         keys: dict[str, Any] = {"visibility_s": chance.randint(1, 8), "delay_s": chance.choice([0, 0, 3]),
                                 "retention_s": chance.choice([60, 345_600])}
         if number == 0:
             keys |= {"dead_letter": names[-1], "max_receives": chance.randint(1, 3), "latency_ms": 20}
-        parts.append(table("queue", name=name, **keys))
+        parts.append(queue_of(name, **keys))
     fifo = {"groups": chance.randint(1, 5), "ids": True} if end else {}
     for number, name in enumerate(names[:-1]):
         least = chance.randint(1, 300)
-        parts.append(table("actor", name=f"p{number}", kind="producer", queue=name, count=chance.randint(1, 300),
-                           gap_min_ms=least, gap_max_ms=least + 200, body=chance.choice(["m", "{n}"]), **fifo))
+        parts.append(producer(f"p{number}", name, chance.randint(1, 300), (least, least + 200), chance.choice(["m", "{n}"]),
+                              **fifo))
         forward = {"forward": names[number + 1], "latency_ms": 30} if chance.random() < 0.5 else {}
         least = chance.randint(1, 4_000)
         for copy in range(chance.randint(0, 3)):
-            parts.append(table("actor", name=f"c{number}-{copy}", kind="consumer", queue=name, service_min_ms=least,
-                               service_max_ms=2 * least, batch=chance.randint(1, 10), wait_s=chance.choice([0, 2]),
-                               fail_permille=chance.choice([0, 300]), **forward))
-    parts.append(table("actor", name="op", kind="script", queue=names[-1],
-                       calls="at,call,body,group,id,delay,receipt,max,wait,timeout,task\n9000,start,,,,,,,,,t\n"
-                             "9001,receive,,,,,,10,,,\n9500,start,,,,,,,,,t\n"))
-    parts.append(table("task", name="t", queue=names[-1], to=names[0], per_second=5, latency_ms=20))
-    return "".join(parts)
+            parts.append(consumer(f"c{number}-{copy}", name, (least, 2 * least), batch=chance.randint(1, 10),
+                                  wait_s=chance.choice([0, 2]), fail_permille=chance.choice([0, 300]), **forward))
+    operator = script("op", names[-1], "9000,start,,,,,,,,,t", "9001,receive,,,,,,10,,,", "9500,start,,,,,,,,,t")
+    return scenario_of(horizon, *parts, operator, task("t", names[-1], to=names[0], per_second=5, latency_ms=20), seed=seed)
 
 
 class Whole(unittest.TestCase):

@@ -8,9 +8,9 @@ import unittest
 from code_keys import code_keys, constant, listed_keys
 from tool import ROOT, text_at
 from rehearse_tools.console import Fault, library, toml_of
-from rehearse_tools.keys import (CONSUMER, FIFO, HEAD, ITEMS, NUMBER, NUMBERS, PREVIEW, PRODUCER, QUANTILES, QUEUE,
-                                 REQUIRED, SCRIPT, STANDARD, STRETCHES, TASK, TOP, TRUTH, VERSIONS, WEIGHTS, consumer_keys,
-                                 keys_of, latency)
+from rehearse_tools.keys import (CONSUMER, FIFO, HEAD, ITEMS, NUMBER, NUMBER_OR_NUMBERS, NUMBERS, PREVIEW, PRODUCER,
+                                 QUANTILES, QUEUE, REQUIRED, SCRIPT, STANDARD, STRETCHES, TABLES, TASK, TEXT,
+                                 TEXT_OR_TEXTS, TOP, TRUTH, VERSIONS, WEIGHTS, consumer_keys, keys_of, latency)
 from stored_cases import REFUSED, RUNNING, stored
 
 try:
@@ -21,7 +21,7 @@ except Fault:
 UNSAID = re.compile(r"refused (?:10 NotToml|(?:15|19) .*\.copies|16 .*|17 .*|18 .*|20 .*|12 MissingKey at .*\.script|"
                     r"11 UnknownKey at .*\.fail_service_ms|"
                     r"14 OutOfRange at (?:version|.*\.(?:gap_max_ms|service_max_ms|latency_max_ms|sampled|body|stop_ms|"
-                    r"fails_on|fails_to_ms|(?:gap|service|fails_between_ms)\[[0-9]+\])))\n")
+                    r"fails_on|fails_to_ms|fails_permille|(?:gap|service|fails_between_ms)\[[0-9]+\])))\n")
 with open(os.path.join(ROOT, "docs", "scenario.schema.json"), encoding="utf-8") as schema_file:
     SCHEMA = json.load(schema_file)
 # The tables of keys in docs/FORMATS.md, by the first cell of their heads.
@@ -109,6 +109,10 @@ class Documents(unittest.TestCase):
             return "quantiles"
         if key.kind in (WEIGHTS, STRETCHES):
             return f"{key.low}..{key.high} pairs"
+        if key.kind == NUMBER_OR_NUMBERS:
+            return f"{key.low}..{key.high:,}, or a list with one for each pair of {key.beside[-1]}"
+        if key.kind == TEXT_OR_TEXTS:
+            return f"a queue, also the home, or in version 3 a list of {key.low}..{key.high}"
         return "true, false" if key.kind == TRUTH else ", ".join(key.words or ())
 
     def test_tables_of_the_document(self):
@@ -149,7 +153,7 @@ class Documents(unittest.TestCase):
         default = 0 if key.name == "copies" else key.default
         self.assertEqual(found.default, REQUIRED if key.name in WHERE_THERE else
                          "hosts" if key.name == "sampled" else default)
-        if key.kind in (NUMBER, NUMBERS, QUANTILES, WEIGHTS, STRETCHES) or key.name == "fails_on":
+        if key.kind not in (TEXT, TRUTH, TABLES) or key.name == "fails_on":
             self.assertEqual((found.low, found.high),
                              (key.low, None if key.name in ("sampled", "version") else key.high))
         self.assertEqual((found.words, found.least), (key.words, key.least))
@@ -173,7 +177,8 @@ class Documents(unittest.TestCase):
 
     def test_keys_of_version_3_alone(self):
         new = {key.name for keys in (PRODUCER, CONSUMER) for key in keys if key.since == 3}
-        self.assertEqual(set(SCHEMA["definitions"]["before_version_3_actor"]["properties"]), new)
+        before = SCHEMA["definitions"]["before_version_3_actor"]["properties"]
+        self.assertEqual(before, {**dict.fromkeys(new, False), "forward": {"type": "string"}})
         for kind in ("script", "producer", "consumer"):
             self.assertFalse(new & {key.name for key in keys_of("actor", kind, 2)})
 
@@ -181,13 +186,14 @@ class Documents(unittest.TestCase):
         for key in keys:
             with self.subTest(key=key.name):
                 given = found[key.name]
-                if key.kind == NUMBER:
-                    self.assertEqual((given["minimum"], given["maximum"]), (key.low, key.high))
-                if key.kind in (NUMBERS, QUANTILES, WEIGHTS, STRETCHES):
-                    of = SCHEMA["definitions"]["quantiles"] if key.kind == QUANTILES else given
+                one, several = given.get("anyOf", (given, given))
+                if key.kind in (NUMBER, NUMBER_OR_NUMBERS):
+                    self.assertEqual((one["minimum"], one["maximum"]), (key.low, key.high))
+                if key.kind in (NUMBERS, QUANTILES, WEIGHTS, STRETCHES, TEXT_OR_TEXTS):
+                    of = SCHEMA["definitions"]["quantiles"] if key.kind == QUANTILES else several
                     self.assertEqual((of["minItems"], of["maxItems"]), (key.low, key.high))
                 if key.name in ITEMS:
-                    self.assertEqual((given["items"]["minimum"], given["items"]["maximum"]), ITEMS[key.name])
+                    self.assertEqual((several["items"]["minimum"], several["items"]["maximum"]), ITEMS[key.name])
                 self.assertEqual(given.get("default", REQUIRED), REQUIRED if key.default is None else key.default)
                 self.assertTrue(given["description"])
 

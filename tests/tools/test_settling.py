@@ -3,24 +3,12 @@ import io
 import unittest
 
 from tool import ToolCase, needs_program, text_at
+from scenario_texts import producer, queue_of, scenario_of
 from rehearse_tools import settling
 
 # A message a second for 100 minutes, which nobody receives and which expires: the depth grows until the retention
 # period ends, and is its number of seconds from then on.
-LEFT_ALONE = """version = 1
-horizon = 5999999
-[[queue]]
-name = "q"
-retention_s = 1200
-[[actor]]
-name = "p"
-kind = "producer"
-queue = "q"
-count = 9000
-gap_min_ms = 1000
-gap_max_ms = 1000
-body = "m"
-"""
+LEFT_ALONE = scenario_of(5_999_999, queue_of("q", retention_s=1_200), producer("p", "q", 9_000, 1_000))
 LOG = """at,queue,agent,call,answer,message,receipt,detail
 0,q,p,send,new,m-0-0,,x
 100,q,p,send,new,m-0-1,,x

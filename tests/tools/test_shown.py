@@ -9,36 +9,15 @@ from typing import Any
 from unittest import mock
 
 from tool import ToolCase, needs_program
+from scenario_texts import consumer, producer, queue_of, scenario_of, script
 
 from rehearse_tools import sweep, variants
 
 SEEDS, RUNS, TIMES = 500, 20, 10
-SCENARIO = """version = 1
-horizon = 600000
-[[queue]]
-name = "q"
-visibility_s = 20
-[[actor]]
-name = "shop"
-kind = "producer"
-queue = "q"
-count = 40
-gap_min_ms = 500
-gap_max_ms = 1500
-body = "m"
-[[actor]]
-name = "worker"
-kind = "consumer"
-queue = "q"
-wait_s = 20
-idle_ms = 1
-service_min_ms = 100
-service_max_ms = 1500
-fail_permille = 60
-"""
+SCENARIO = scenario_of(600_000, queue_of("q", visibility_s=20), producer("shop", "q", 40, (500, 1_500)),
+                    consumer("worker", "q", (100, 1_500), wait_s=20, idle_ms=1, fail_permille=60))
 # As SCENARIO, with an actor before the others that does nothing: all random numbers are others, and no law changes.
-OTHER = SCENARIO.replace("[[actor]]", '[[actor]]\nname = "idle"\nkind = "script"\nqueue = "q"\ncalls = """\n'
-                         'at,call,body,group,id,delay,receipt,max,wait,timeout,task\n"""\n[[actor]]', 1)
+OTHER = SCENARIO.replace("[[actor]]", script("idle", "q") + "[[actor]]", 1)
 COLUMNS = ("age_p50", "age_p95", "age_p99", "age_max", "age_sum", "receives", "empties", "depth_max")
 VERDICT = re.compile(r": (q[^ ]* in [0-9]+%) is (?:(shown|refuted)|undecided): [0-9]+ of [0-9]+ runs,")
 

@@ -10,24 +10,13 @@ import sys
 import unittest
 
 from tool import LIMIT, PROGRAM, REPORT_HEADER, ROOT, TOOLS, ToolCase, needs_program, read_whole, text_at, wait_for
+from scenario_texts import consumer, producer, queue_of, scenario_of, table
 from rehearse_tools.console import toml_of
 from rehearse_tools.variants import values_of
 
 COLUMNS = REPORT_HEADER.strip().removeprefix("report,queue,")
-SCENARIO = """version = 1
-horizon = 1000
-seed = 0
-[[queue]]
-name = "q"
-visibility_s = 1
-[[queue]]
-name = "r"
-"""
-WORKER = """[[actor]]
-name = "worker"
-kind = "consumer"
-queue = "q"
-"""
+SCENARIO = scenario_of(1_000, queue_of("q", visibility_s=1), queue_of("r"), seed=0)
+WORKER = table("actor", name="worker", kind="consumer", queue="q")
 # It starts quickly, as many runs are needed. It reports 100 sends for each second of visibility and one for each unit of
 # the seed, and refuses a visibility over 50.
 # A seed of 77 makes the file begun and takes an hour; with a worker the greatest age is the seed in seconds, and
@@ -347,43 +336,17 @@ r         2     0          0      0       0         0           0      0        
     @needs_program
     def test_copies_with_the_program(self):
         """Each of n copies of a producer of three messages sends its three."""
-        scenario = self.write("p.toml", """version = 1
-horizon = 10000
-queue = [{name = "q"}]
-[[actor]]
-name = "shop"
-kind = "producer"
-queue = "q"
-count = 3
-gap_min_ms = 1
-gap_max_ms = 1
-body = "b"
-""")
-        status, out, _ = self.sweep(scenario, "--program", PROGRAM, "--vary", "count.shop=1..4", "--columns", "sends")
+        path = self.write("p.toml", scenario_of(10_000, queue_of("q"), producer("shop", "q", 3, 1)))
+        status, out, _ = self.sweep(path, "--program", PROGRAM, "--vary", "count.shop=1..4", "--columns", "sends")
         self.assertEqual((status, [row[-1] for row in self.records(out)[1]]), (0, ["3", "6", "9", "12"]))
 
     @needs_program
     def test_copies_change_nothing_of_other_actors(self):
         """What is sent to b does not depend on how many workers a has."""
-        actors = "".join(f"""[[queue]]
-name = "{name}"
-[[actor]]
-name = "{name}-sender"
-kind = "producer"
-queue = "{name}"
-count = 9000
-gap_min_ms = 1
-gap_max_ms = 1999
-body = "m"
-[[actor]]
-name = "{name}-worker"
-kind = "consumer"
-queue = "{name}"
-service_min_ms = 100
-service_max_ms = 200
-""" for name in "ab")
-        scenario = self.write("two.toml", f"version = 1\nhorizon = 3600000\n{actors}")
-        status, out, _ = self.sweep(scenario, "--program", PROGRAM, "--vary", "count.a-worker=1,2,5",
+        tables = [queue_of(name) + producer(f"{name}-sender", name, 9_000, (1, 1_999)) + consumer(
+            f"{name}-worker", name, (100, 200)) for name in "ab"]
+        path = self.write("two.toml", scenario_of(3_600_000, *tables))
+        status, out, _ = self.sweep(path, "--program", PROGRAM, "--vary", "count.a-worker=1,2,5",
                                     "--columns", "sends,age_p99")
         rows = [row[3:] for row in self.records(out)[1] if row[2] == "b"]
         self.assertEqual((status, rows[1:]), (0, [rows[0]] * 2))

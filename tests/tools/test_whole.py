@@ -5,6 +5,7 @@ import subprocess
 import unittest
 
 from tool import HEADER, PROGRAM, ToolCase, ended, needs_program, open_end
+from scenario_texts import producer, queue_of, scenario_of
 
 # Two messages come into q, of which one is deleted and the other one is left; a poll of p is empty.
 LOG = HEADER + """0,q,shop,send,new,m-0-0,,x
@@ -17,19 +18,7 @@ FINAL = "final,q,m-0-1,o-0-1,visible,,5,0,,x\n"
 WHOLE = ended(LOG, FINAL)
 MISSING = "the run did not end: its report is missing"
 # Messages that nobody receives, so that memory runs out.
-MANY = """version = 1
-horizon = 86400000
-[[queue]]
-name = "q"
-[[actor]]
-name = "p"
-kind = "producer"
-queue = "q"
-count = 1000000
-gap_min_ms = 1
-gap_max_ms = 1
-body = "m"
-"""
+MANY = scenario_of(86_400_000, queue_of("q"), producer("p", "q", 1_000_000, 1))
 # The tools that read a log, with what they need besides it.
 WORDS = {"metrics": ("--to", "1s"), "picture": (), "life": ("m-0-0",), "summary": ()}
 MORE_WORDS = {**WORDS, "life": ("--worst",), "metrics": ("--to", "1s", "--alarm", "NumberOfMessagesSent>9")}

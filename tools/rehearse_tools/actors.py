@@ -9,8 +9,10 @@ import dataclasses
 import math
 import re
 from collections.abc import Iterable
+from typing import Any
 
-from .queues import NAME_MOST, Queue
+from .queues import NAME, NAME_MOST, Queue
+from .scenarios import text_of_table
 
 # How far the messages of a skeleton's producer are apart on average, in milliseconds, and how many it may send.
 GAP, SENDS_MOST = 1_000, 1_000_000
@@ -18,27 +20,10 @@ GAP, SENDS_MOST = 1_000, 1_000_000
 WAIT = 20
 # The most messages of a receive; consumers for a mapping that limits itself to none, and the most that are written.
 BATCH_MOST, CONSUMERS, CONSUMERS_MOST = 10, 5, 100
+# The most queues to which a consumer forwards each message.
+FORWARDS_MOST = 10
 # Messages of the depth that one producer sends, one each millisecond, while there are not too many producers.
 DEPTH_OF_PRODUCER, DEPTH_PRODUCERS_MOST = 1_000, 100
-PRODUCER = """[[actor]]
-name = "{name}"
-kind = "producer"
-queue = "{queue}"
-count = {count}
-gap_min_ms = {least}
-gap_max_ms = {most}
-body = "message {{n}}"
-"""
-CONSUMER = """[[actor]]
-name = "{name}"
-kind = "consumer"
-queue = "{queue}"
-batch = {batch}
-wait_s = {wait}
-service_min_ms = 100
-service_max_ms = 1000
-idle_ms = 1
-"""
 
 
 @dataclasses.dataclass
@@ -89,11 +74,16 @@ class Mapping:
 
 @dataclasses.dataclass
 class Subscription:
-    """A subscription of SNS, by which the messages of a topic go to a queue."""
+    """A subscription of SNS, by which the messages of a topic go to a queue.
+
+    `topic` is what the topic is called, and `source` what the file says of it, which is the same for two subscriptions of
+    one topic, and empty if the file does not tell the topic.
+    """
 
     place: str
     queue: str
     topic: str
+    source: str
     is_filtered: bool = False
 
     def told(self, others: Iterable[str]) -> list[str]:
@@ -101,6 +91,16 @@ class Subscription:
         notes = ["its filter policy is left out: send as many as it lets through"] if self.is_filtered else []
         names = ", ".join(sorted(set(others) - {self.queue}))
         return [*notes, f"the same messages go to {names}: here each queue gets its own"] if names else notes
+
+
+@dataclasses.dataclass
+class Topic:
+    """A topic of SNS that brings each message to several queues, as a queue whose consumer forwards to all of them, and
+    how long that takes."""
+
+    queue: Queue
+    subscriptions: list[Subscription]
+    latency: int
 
 
 @dataclasses.dataclass
@@ -112,16 +112,34 @@ class Wiring:
     notes: list[str] = dataclasses.field(default_factory=list)
 
 
+def topics_in(wiring: Wiring, queues: Iterable[Queue], latency: int) -> list[Topic]:
+    """The topics of which two queues or more of one kind get each message, of which a filter leaves none out."""
+    by_source: dict[str, list[Subscription]] = {}
+    for found in wiring.subscriptions:
+        if found.source and not found.is_filtered:
+            by_source.setdefault(found.source, []).append(found)
+    taken = {queue.name for queue in queues}
+    topics = []
+    for subscriptions in by_source.values():
+        kinds = {found.queue.endswith(".fifo") for found in subscriptions}
+        if len(kinds) == 1 and 1 < len(subscriptions) <= FORWARDS_MOST:
+            ending, label = ".fifo" if kinds == {True} else "", subscriptions[0].topic.removesuffix(".fifo")
+            is_free = NAME.fullmatch(f"{label}{ending}") and f"{label}{ending}" not in taken
+            name = name_apart(label, "" if is_free else "-topic", taken, ending)
+            topics.append(Topic(Queue(name), subscriptions, latency))
+    return topics
+
+
 def plain(text: str) -> str:
     """A text in characters that a comment of a scenario may have."""
     return re.sub(r"[^ -~]", "?", text)
 
 
-def name_apart(queue: str, end: str, taken: set[str]) -> str:
-    """A name for an actor that nothing else has."""
+def name_apart(queue: str, end: str, taken: set[str], last: str = "") -> str:
+    """A name that nothing else has, with `last` at its very end."""
     base, number = re.sub("[^A-Za-z0-9_-]+", "-", queue.removesuffix(".fifo")), 0
     while True:
-        ending = end if number == 0 else f"{end}-{number + 1}"
+        ending = (end if number == 0 else f"{end}-{number + 1}") + last
         made = base[:NAME_MOST - len(ending)] + ending
         if made not in taken:
             taken.add(made)
@@ -137,8 +155,8 @@ def commented(lines: Iterable[str]) -> str:
 class Actors:
     """The tables of actors for some queues, as a text, and notes on them, each with the place that it is about."""
 
-    def __init__(self, queues: list[Queue], horizon: int, is_preview: bool) -> None:
-        self.is_preview = is_preview
+    def __init__(self, queues: list[Queue], horizon: int, is_preview: bool, topics: Iterable[Topic] = ()) -> None:
+        self.is_preview, self.topics = is_preview, {topic.queue.name: topic for topic in topics}
         self.taken, self.text = {queue.name for queue in queues}, ""
         self.notes: list[tuple[str, str]] = []
         self.received: set[str] = set()
@@ -149,13 +167,17 @@ class Actors:
         self.text += "\n" + commented([title, *notes])
         self.notes += [(place, plain(note)) for note in notes]
 
-    def producer(self, queue: Queue, name: str, count: int, gaps: tuple[int, int] = (100, 1_900)) -> None:
-        self.text += PRODUCER.format(name=name, queue=queue.name, count=count, least=gaps[0], most=gaps[1])
-        self.text += "groups = 10\n" if queue.fifo else ""
+    def producer(self, queue: Queue, name: str, count: int, gaps: tuple[int, int] = (100, 1_900), **more: Any) -> None:
+        more = {"groups": 10} if queue.fifo else more
+        self.text += text_of_table("actor", {
+            "name": name, "kind": "producer", "queue": queue.name, "count": count, "gap_min_ms": gaps[0],
+            "gap_max_ms": gaps[1], "body": "message {n}", **more})
 
-    def consumer(self, queue: Queue, name: str, batch: int) -> None:
+    def consumer(self, queue: Queue, name: str, batch: int, times: tuple[int, int] = (100, 1_000), **more: Any) -> None:
         self.received.add(queue.name)
-        self.text += CONSUMER.format(name=name, queue=queue.name, batch=batch, wait=queue.wait or WAIT)
+        self.text += text_of_table("actor", {
+            "name": name, "kind": "consumer", "queue": queue.name, "batch": batch, "wait_s": queue.wait or WAIT,
+            "service_min_ms": times[0], "service_max_ms": times[1], "idle_ms": 1, **more})
 
     def skeleton_producer(self, queue: Queue) -> None:
         self.begin(f"SKELETON: who sends to {queue.name}", queue.name, [])
@@ -168,11 +190,11 @@ class Actors:
     def of_mapping(self, queue: Queue, mapping: Mapping) -> None:
         self.begin(f"SKELETON: the function {mapping.function} takes messages of {queue.name}, by {mapping.place}",
                    mapping.place, mapping.told(self.is_preview))
+        fails: dict[str, Any] = {"batch_fails": "each" if mapping.is_partial else "whole"} if self.is_preview else {}
         names = [f"{mapping.function[:NAME_MOST - 8]}-{number}" for number in range(1, mapping.consumers() + 1)]
         for place, name in enumerate(names):
             self.text += "\n" if place else ""
-            self.consumer(queue, name_apart(name, "", self.taken), max(1, min(mapping.batch, BATCH_MOST)))
-            self.text += f'batch_fails = "{"each" if mapping.is_partial else "whole"}"\n' if self.is_preview else ""
+            self.consumer(queue, name_apart(name, "", self.taken), max(1, min(mapping.batch, BATCH_MOST)), **fails)
 
     def of_subscription(self, queue: Queue, subscription: Subscription, others: Iterable[str]) -> None:
         self.begin(f"SKELETON: what the topic {subscription.topic} sends to {queue.name}, by {subscription.place}",
@@ -180,32 +202,47 @@ class Actors:
         self.producer(queue, name_apart(subscription.topic, f"-to-{queue.name.removesuffix('.fifo')}"[:40], self.taken),
                       self.count)
 
+    def of_topic(self, topic: Topic) -> None:
+        queues = [found.queue for found in topic.subscriptions]
+        self.begin(f"SKELETON: the topic {topic.subscriptions[0].topic} sends each message to {', '.join(queues)}, by "
+                   f"{', '.join(dict.fromkeys(found.place for found in topic.subscriptions))}", topic.queue.name,
+                   [f"DEFAULT: latency_min_ms and latency_max_ms of {topic.latency}, how long that takes, as nothing "
+                    f"tells it"])
+        self.consumer(topic.queue, name_apart(topic.queue.name, "-sends", self.taken), BATCH_MOST, (1, 1), forward=queues,
+                      latency_min_ms=topic.latency, latency_max_ms=topic.latency)
+
     def depth(self, queue: Queue, attribute: str, count: int) -> None:
         """Producers that send the messages which are there in the beginning, within the first moments."""
         many = min(math.ceil(count / DEPTH_OF_PRODUCER), DEPTH_PRODUCERS_MOST)
         counts = [count // many + (place < count % many) for place in range(many)]
         is_delayed = attribute.endswith("Delayed")
+        more = {} if is_delayed else {"delay_s": 0}
         self.begin(f"DEPTH: the {count} messages of {attribute}, sent in the first {counts[0]} ms, as the file does "
                    f"not tell their ages", queue.name, [])
         for place, part in enumerate(counts):
             self.text += "\n" if place else ""
             self.producer(queue, name_apart(queue.name, f"-depth-{'delayed-' if is_delayed else ''}{place + 1}",
-                                            self.taken), part, (1, 1))
-            self.text += "delay_s = 0\n" if not is_delayed and not queue.fifo else ""
+                                            self.taken), part, (1, 1), **more)
 
     def of_wiring(self, queues: list[Queue], wiring: Wiring) -> None:
         """For each queue the senders and receivers that the file names, else skeletons if it takes no dead letters."""
         dead_letters = {queue.dead_letter for queue in queues}
+        by_topic = [found for topic in self.topics.values() for found in topic.subscriptions]
         of_topic: dict[str, list[str]] = {}
         for subscription in wiring.subscriptions:
             of_topic.setdefault(subscription.topic, []).append(subscription.queue)
+        fed = dead_letters | {found.queue for found in by_topic}
         for queue in queues:
-            subscriptions = [found for found in wiring.subscriptions if found.queue == queue.name]
+            subscriptions = [found for found in wiring.subscriptions
+                             if found.queue == queue.name and found not in by_topic]
             mappings = [found for found in wiring.mappings if found.queue == queue.name]
             for subscription in subscriptions:
                 self.of_subscription(queue, subscription, of_topic[subscription.topic])
-            if not subscriptions and queue.name not in dead_letters:
+            if not subscriptions and queue.name not in fed:
                 self.skeleton_producer(queue)
+            if queue.name in self.topics:
+                self.of_topic(self.topics[queue.name])
+                continue
             for mapping in mappings:
                 self.of_mapping(queue, mapping)
             if not mappings and queue.name not in dead_letters:

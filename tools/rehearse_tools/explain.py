@@ -28,14 +28,15 @@ from collections.abc import Iterator, Sequence
 from typing import Any
 
 from .console import Fault, Parser, print_text, read_bytes, read_text, shown, toml_of
-from .keys import (ACTORS, FIFO, ITEMS, NUMBER, NUMBERS, PREVIEW, QUANTILES, REQUIRED, STRETCHES, TABLES, TEXT,
-                   VERSIONS, WEIGHTS, Key, keys_of)
+from .keys import (ACTORS, FIFO, ITEMS, NUMBER, NUMBER_OR_NUMBERS, NUMBERS, PREVIEW, QUANTILES, REQUIRED, STRETCHES,
+                   TABLES, TEXT, TEXT_OR_TEXTS, VERSIONS, WEIGHTS, Key, keys_of)
 from .loads import text_of_loads
 from .positions import Lost, Path, Positions
 from .programs import program_of, reading_words
 from .scenarios import parsed, text_of_value as text_of
 from .scripts import fault_of_script
 from .starting import ran
+from .units import several
 
 REFUSED = re.compile(r"refused ([0-9]+) ([A-Za-z]+)(?: at (.*))?", re.S)
 PLACE = re.compile(r"(queue|actor|task)\[([0-9]+)\](?:\.(.*))?", re.S)
@@ -49,13 +50,14 @@ NAMES = {"queue": "A queue's name has 1 to 80 ASCII letters, digits, - and _, an
          "actor": "A name has 1 to 80 ASCII letters, digits, - and _."}
 # What a list that is the value of a key has.
 LISTS = {NUMBERS: "whole numbers", QUANTILES: "pairs [permille, ms]", WEIGHTS: "pairs [group, weight]",
-         STRETCHES: "pairs [from, to] in ms"}
+         STRETCHES: "pairs [from, to] in ms", TEXT_OR_TEXTS: "texts if it is a list"}
 QUANTILES_RULE = "It is a pair [permille, ms]. The first permille is 0 and the last 1,000; each other one is greater " \
     "than the one before it, and at most 999. Times have 1 to 86,400,000, and none is less than the one before it."
 WEIGHTS_RULE = "It is a pair [group, weight]. The group has 1 to 128 bytes of 0x21 to 0x7E, and the weight has 1 to " \
     "1,000,000."
 STRETCHES_RULE = "It is a pair [from, to] in ms. Both have 0 to 2,592,000,000, and the second is no less than the first."
-ITEM_FORMS = {QUANTILES: "a pair of two whole numbers, as [500, 120]",
+ITEM_FORMS = {NUMBERS: NUMBER, NUMBER_OR_NUMBERS: NUMBER, TEXT_OR_TEXTS: TEXT,
+              QUANTILES: "a pair of two whole numbers, as [500, 120]",
               WEIGHTS: 'a pair of a text and a whole number, as ["customer-7", 90]',
               STRETCHES: "a pair of two whole numbers, as [600000, 1800000]"}
 ITEM_RULES = {QUANTILES: QUANTILES_RULE, WEIGHTS: WEIGHTS_RULE, STRETCHES: STRETCHES_RULE}
@@ -113,6 +115,18 @@ class Scenario:
 
     def value(self, key: str | None) -> Any:
         return self.table.get(key) if self.is_table else None
+
+    def value_here(self) -> Any:
+        """The value at the place of the fault: of the key, or of an item of its list."""
+        value = self.value(self.key)
+        if self.item is None or not isinstance(value, list):
+            return value
+        return value[self.item] if self.item < len(value) else ""
+
+    def what_is_here(self) -> str:
+        """What the fault is of, as it begins a sentence: a key of a table, or an item of its list."""
+        of = f"{self.key} of {self.title()}"
+        return of if self.item is None else f"Item number {self.item + 1} of {of}"
 
     def keys(self) -> dict[str, Key]:
         return {key.name: key for key in keys_of(self.of, self.kind, self.version)}
@@ -240,7 +254,7 @@ def range_text(key: Key | None) -> str:
         return f" It has {key.low:,} to {key.high:,} {LISTS[key.kind]}{of_each(key)}."
     if key.kind == TEXT and key.high:
         return f" It has {key.low:,} to {key.high:,} bytes."
-    if key.kind != NUMBER:
+    if key.kind not in (NUMBER, NUMBER_OR_NUMBERS):
         return f" It is {key.kind}."
     default = "" if key.default in (None, REQUIRED) else f", and {key.default:,} where it is not given"
     return f" It has {key.low:,} to {key.high:,}{default}."
@@ -268,27 +282,31 @@ def wrong_type(scenario: Scenario) -> str:
         hint = " A number stands without quotes."
     elif found and found.kind == TABLES:
         hint = f" Each begins with [[{key}]]."
+    elif isinstance(value, list) and key in {"forward", "fails_permille"}:
+        return list_in_vain(scenario)
     return f"{key} of {scenario.title()} is {kind}, and has to be {found.kind if found else 'of another kind'}.{hint}" \
            f"{range_text(found) if found and found.kind != TABLES else ''}"
 
 
+def list_in_vain(scenario: Scenario) -> str:
+    """A list where one value alone may stand."""
+    why = "which is of version 3" if scenario.key == "forward" else "which stands only beside fails_between_ms"
+    return f"{scenario.key} of {scenario.title()} is a list, {why}."
+
+
 def item_text(scenario: Scenario) -> str:
     """An item of a list, as it begins a sentence."""
-    value, place = scenario.value(scenario.key), scenario.item or 0
-    item = value[place] if isinstance(value, list) and place < len(value) else ""
-    return f"Item number {place + 1} of {scenario.key} of {scenario.title()} is {shown(text_of(item))}"
+    return f"{scenario.what_is_here()} is {shown(text_of(scenario.value_here()))}"
 
 
 def item_of_wrong_type(scenario: Scenario) -> str:
     found = scenario.keys().get(scenario.key)
-    if found and found.kind == NUMBERS:
-        return f"{item_text(scenario)}, and has to be a whole number."
     return f"{item_text(scenario)}, and has to be {ITEM_FORMS[found.kind] if found else 'of another kind'}."
 
 
 def item_out_of_range(scenario: Scenario) -> str:
     found = scenario.keys().get(scenario.key)
-    if found and found.kind == NUMBERS:
+    if found and found.name in ITEMS:
         low, high = ITEMS[found.name]
         return f"{item_text(scenario)}. It has {low:,} to {high:,}."
     return f"{item_text(scenario)}. {ITEM_RULES[found.kind] if found else ''}"
@@ -298,7 +316,11 @@ def wrong_length(scenario: Scenario, found: Key) -> str:
     """A list with too few or too many items."""
     value = scenario.value(found.name)
     count = len(value) if isinstance(value, list) else 0
-    return f"{found.name} of {scenario.title()} has {count:,} item{'s' if count != 1 else ''}.{range_text(found)}"
+    text = f"{found.name} of {scenario.title()} has {several(count, 'item')}"
+    if found.kind != NUMBER_OR_NUMBERS:
+        return f"{text}.{range_text(found)}"
+    beside = found.beside[-1]
+    return f"{text}, and {beside} {several(len(scenario.value(beside) or []), 'pair')}. Each pair has one number."
 
 
 def out_of_range(scenario: Scenario) -> str:
@@ -311,7 +333,7 @@ def out_of_range(scenario: Scenario) -> str:
         return f"{text} It is a preview, which is read only for the word --preview."
     if scenario.item is not None:
         return item_out_of_range(scenario)
-    if found and found.kind in LISTS:
+    if found and (found.kind in LISTS or isinstance(value, list)):
         return wrong_length(scenario, found)
     if key == "kind":
         return f"{text}{range_text(found)}{nearest(value, list(ACTORS))}"
@@ -373,22 +395,23 @@ def name_twice(scenario: Scenario) -> str:
 
 
 def unknown_queue(scenario: Scenario) -> str:
-    value, key = str(scenario.value(scenario.key)), scenario.key
+    value, key = str(scenario.value_here()), scenario.key
     names = [item.get("name") for item in scenario.found.get("queue", []) if isinstance(item, dict)]
     queues = [name for name in names if isinstance(name, str)]
     title = scenario.title()
     if value not in queues:
-        return f"{key} of {title} is {shown(value)}, and there is no queue of this name.{nearest(value, queues)}"
+        return f"{scenario.what_is_here()} is {shown(value)}, and there is no queue of this name." \
+               f"{nearest(value, queues)}"
     if scenario.of == "task" and key == "queue":
         return f"{title} is at {value}, which is no queue's dead_letter; a task moves dead letters alone."
     return f"{key} of {title} is the queue itself; it has to be another one."
 
 
 def kind_mismatch(scenario: Scenario) -> str:
-    value, home = str(scenario.value(scenario.key)), scenario.value("name" if scenario.of == "queue" else "queue")
+    value, home = str(scenario.value_here()), scenario.value("name" if scenario.of == "queue" else "queue")
     kinds = ["a FIFO queue" if str(name).endswith(".fifo") else "a standard queue" for name in (value, home)]
-    return f"{scenario.key} of {scenario.title()} is {shown(value)}, {kinds[0]}, and {shown(str(home))} is " \
-           f"{kinds[1]}; both have to be of one kind."
+    return f"{scenario.what_is_here()} is {shown(value)}, {kinds[0]}, and {shown(str(home))} is {kinds[1]}; " \
+           "both have to be of one kind."
 
 
 def too_many(scenario: Scenario) -> str:

@@ -15,12 +15,13 @@ each call that may run at once. A queue that is subscribed to a topic of SNS get
 that takes no dead letters gets a producer and a consumer, so that the scenario can be run. All are marked SKELETON in a
 comment, because no plan says how many messages come and how long their service takes. Consumers poll for 20 s if the
 file does not say. With --preview the scenario has version 3, in which a function that does not report batch item
-failures fails its whole batch; run it with --preview too.
+failures fails its whole batch; run it with --preview too. Then also a topic of which two to ten queues of one kind get
+all messages is a queue of its own, with a consumer that forwards each message to all of them.
 
 A setting that the file does not have gets a default, marked DEFAULT. Each default, and each thing that the model does
 not have, is also a line on standard error. So is a value that a scenario does not permit; then nothing is written, and
-the status is 2. --horizon is how long to rehearse (3600000, an hour), and --latency how long a redrive takes (100),
-both in milliseconds.
+the status is 2. --horizon is how long to rehearse (3600000, an hour), and --latency how long a redrive takes (100), and
+the way from a topic to a queue, both in milliseconds.
 
 Examples:
 

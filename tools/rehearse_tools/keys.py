@@ -9,11 +9,14 @@ from .fact_tables import rows_of
 NUMBER, TEXT, TRUTH, TABLES = "a whole number", "a text", "true or false", "a list of tables"
 NUMBERS, QUANTILES = "a list of whole numbers", "a list of pairs [permille, ms]"
 WEIGHTS, STRETCHES = "a list of pairs [group, weight]", "a list of pairs [from, to] in ms"
+# What may be one or a list.
+TEXT_OR_TEXTS, NUMBER_OR_NUMBERS = "a text or a list of texts", "a whole number or a list of whole numbers"
 REQUIRED = "required"
 STANDARD, FIFO = "standard", "FIFO"
 # The kinds by what the table of keys calls them: a name, a queue's name and a file's name are texts.
 KINDS = {"number": NUMBER, "truth": TRUTH, "tables": TABLES, "numbers": NUMBERS, "quantiles": QUANTILES,
-         "weights": WEIGHTS, "stretches": STRETCHES, "text": TEXT, "name": TEXT, "queue": TEXT, "file": TEXT}
+         "weights": WEIGHTS, "stretches": STRETCHES, "text": TEXT, "name": TEXT, "queue": TEXT, "file": TEXT,
+         "queue or queues": TEXT_OR_TEXTS, "number or numbers": NUMBER_OR_NUMBERS}
 # The name of the rows that stand for the keys of a latency.
 LATENCY = "latency"
 
@@ -22,7 +25,7 @@ class Key(NamedTuple):
     """A key of a table: its kind, its range or allowed words, and its default (None if it may be absent without one).
     Also the only kind of queue that may have it, the keys beside one of which alone it may occur, the key that is its
     least value, the first version that has it, and the keys in whose place it may be. The range of a text is in bytes, and
-    that of a list is how many items it has."""
+    that of a list is how many items it has. Where a number may be a list, the range is that of each number."""
 
     name: str
     kind: str
@@ -89,4 +92,10 @@ def keys_of(of: str, kind: str | None, version: int) -> list[Key]:
         keys = TASK + latency(version)
     elif of == "actor":
         keys = consumer_keys(latency(version, ("forward",))) if kind == "consumer" else ACTORS.get(kind or "", HEAD)
-    return [key for key in keys if key.since <= version]
+    return [as_of(key, version) for key in keys if key.since <= version]
+
+
+def as_of(key: Key, version: int) -> Key:
+    """A key as a version has it: a queue that may be a list of them is a text before version 3."""
+    is_text = key.kind == TEXT_OR_TEXTS and version < PREVIEW
+    return key._replace(kind=TEXT, low=None, high=None) if is_text else key

@@ -35,7 +35,7 @@ from .console import Fault, Parser
 from .logs import Final, Head, Log, Row, Rows, Take, What, message_of_receipt, tell_open
 from .origins import Forwards, Origins, origin_of
 from .replay import ENTERS, LEAVES, Checked, checked, faults_told, handlers_of, ignored, is_forward, replay
-from .units import clock, duration as rounded
+from .units import clock, duration as rounded, several
 
 ID = re.compile(r"[mo]-(0|[1-9][0-9]*)-(0|[1-9][0-9]*)")
 MOST = 10_000
@@ -337,7 +337,7 @@ def tell_worst(log: Log, most: int) -> None:
     worst = sorted(Stays(log, most).worst, reverse=True)
     tell_open(log)
     cells = [(stay.origin, f"for {rounded(stay.until - stay.since)}", f"from {stay.since} ms to {stay.until} ms",
-              f"received {stay.receives:,} time{'s' if stay.receives != 1 else ''}", stay.end) for stay in worst]
+              f"received {several(stay.receives, 'time')}", stay.end) for stay in worst]
     widths = [max(map(len, column)) for column in zip(*cells)]
     for stay, line in zip(worst, cells):
         mark = "!! " if stay.is_lost else "   "

@@ -5,7 +5,7 @@ import re
 from argparse import Namespace
 from collections.abc import Iterable, Sequence
 
-from .actors import Actors, Wiring, plain
+from .actors import Actors, Wiring, plain, topics_in
 from .console import Fault, Parser, check_output, note, write_text
 from .keys import PREVIEW
 from .queues import Queue
@@ -65,8 +65,10 @@ def tell_and_write(queues: list[Queue], options: Namespace, source: str, wiring:
     """Prints the notes on all queues and writes the scenario, or prints the faults; returns the status.
 
     With `wiring` it has actors; with --depth those that send what is there in the beginning. With `is_preview` it has
-    version 3.
+    version 3, in which a topic of several queues is a queue of its own.
     """
+    topics = topics_in(wiring, queues, options.latency) if wiring and is_preview else []
+    queues = [*queues, *(topic.queue for topic in topics)]
     if len(queues) > QUEUES_MOST:
         raise Fault(f"{len(queues)} queues are too many: a scenario has at most {QUEUES_MOST}")
     faults = [f"{queue.name}: {fault}" for queue in queues for fault in queue.faults]
@@ -76,7 +78,7 @@ def tell_and_write(queues: list[Queue], options: Namespace, source: str, wiring:
         return 2
     for queue in queues if is_preview else ():
         with_two_latencies(queue)
-    actors = Actors(queues, options.horizon, is_preview)
+    actors = Actors(queues, options.horizon, is_preview, topics)
     for queue in queues:
         for attribute, count in queue.present.items():
             actors.depth(queue, attribute, count)

@@ -9,7 +9,7 @@ from typing import Any
 from .arrivals import check_status, moment, moments_of
 from .console import Fault, note, shown
 from .queues import json_in, read_any
-from .units import clock
+from .units import clock, several
 
 SECOND = 1_000
 # The statistics that are taken of what get-metric-statistics printed, the first one that is there.
@@ -121,6 +121,6 @@ def sums_of(differences: list[Difference], period: int) -> Iterator[str]:
         apart = [abs(one.rehearsed - one.measured) for one in found]
         worst = found[apart.index(max(apart))]
         share = f" ({100 * (rehearsed - measured) / measured:+.0f} %)" if measured else ""
-        yield (f"{queue} {metric}: {count:,} period{'s' if count > 1 else ''}, mean {number_text(rehearsed)} "
+        yield (f"{queue} {metric}: {several(count, 'period')}, mean {number_text(rehearsed)} "
                f"rehearsed, {number_text(measured)} measured{share}; {number_text(sum(apart) / count)} apart on "
                f"average, at most {number_text(max(apart))} at {clock(worst.period * period)}")

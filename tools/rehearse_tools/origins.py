@@ -2,7 +2,7 @@
 
 A message that is redriven or moved keeps its origin, by which it is known again. A forward makes a new message, and the
 log does not tell which arrival is of which forward. Those of one consumer are taken in their order. That is right where
-only one of them is under way, or where all take equally long; else it is open.
+only one of them is under way, or several of one message, or where all take equally long; else it is open.
 """
 from __future__ import annotations
 
@@ -80,8 +80,8 @@ class Arrival(Generic[Known]):
 
 
 class Edge(Generic[Known]):
-    """The forwards of one consumer to one queue: those that are under way, whether two were at once since none was, and
-    how long those took that arrived, in their order."""
+    """The forwards of one consumer to one queue: those that are under way, whether two of different messages were at once
+    since none was, and how long those took that arrived, in their order."""
 
     def __init__(self) -> None:
         self.under_way: deque[tuple[int, Known]] = deque()
@@ -89,7 +89,7 @@ class Edge(Generic[Known]):
         self.overlap = False
 
     def sent(self, at: int, known: Known) -> None:
-        self.overlap = self.overlap or bool(self.under_way)
+        self.overlap = self.overlap or bool(self.under_way) and self.under_way[-1][1] != known
         self.under_way.append((at, known))
 
     def arrived(self, at: int) -> Arrival[Known]:

@@ -61,7 +61,7 @@ from .logs import Log, tell_open
 from .requirements import Requirement
 from .scenarios import scenario_at
 from .summaries import lost_told, named
-from .units import duration, window_of
+from .units import duration, several, window_of
 
 # Each line is thinner than the one that is drawn before it, so that lines of equal numbers are seen side by side.
 THICKNESSES = {"delayed": 3.6, "in flight": 2.4, "visible": 1.2}
@@ -217,7 +217,7 @@ class Part:
         told = [f"Whole run: {queue.counts()}"]
         if queue.peak:
             moment = duration(queue.peak_at).replace(" ", "\u00a0")
-            told.append(f"The peak was {queue.peak:,} message{'s' if queue.peak > 1 else ''} at {moment}")
+            told.append(f"The peak was {several(queue.peak, 'message')} at {moment}")
         absent = [text for text in found if isinstance(text, str)]
         if absent:
             told.append(f"In the time drawn {' and '.join(absent)}")

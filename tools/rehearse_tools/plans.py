@@ -325,6 +325,15 @@ class Plan:
         parts = [parts_of(text) for text in specific(expression.get("references"))]
         return next((words[1][0] for words in parts if len(words) > 1), "unknown")
 
+    def source_of(self, place: str, argument: str, value: Any) -> str:
+        """What an argument is, if the plan tells it, else what it refers to: in a loop that is of the instance."""
+        if isinstance(value, str) and value:
+            return value
+        scope = self.scope_of(place)
+        references = specific(table(scope.owner, "expressions", argument).get("references"))
+        is_repeated = any(parts_of(text)[0][0] in ("each", "count") for text in references)
+        return repr((scope.path, sorted(references), scope.index if is_repeated else "")) if references else ""
+
     def take_mapping(self, place: str, values: dict[str, Any]) -> None:
         """Reads an aws_lambda_event_source_mapping; those of streams and of other queues are left out."""
         queue = self.queue_of(place, "event_source_arn", values.get("event_source_arn"))
@@ -348,8 +357,9 @@ class Plan:
         if queue is None:
             self.wiring.notes.append(f"{place} is left out: the plan does not tell which of its queues it sends to")
             return
+        topic = values.get("topic_arn")
         self.wiring.subscriptions.append(Subscription(
-            place, queue.name, self.label_of(place, "topic_arn", values.get("topic_arn")),
+            place, queue.name, self.label_of(place, "topic_arn", topic), self.source_of(place, "topic_arn", topic),
             bool(values.get("filter_policy"))))
 
     TAKES = {"aws_sqs_queue_redrive_policy": take_policy, "aws_lambda_event_source_mapping": take_mapping,

@@ -51,7 +51,7 @@ from .runs import COLUMNS, Ages, Counting, Extra, extra_of, reported
 from .scenarios import consumers_of, names_of, parsed, scripts_in, ways_of, written
 from .starting import ran
 from .summaries import LINES, Queue, Reading, Run, cell_of, is_told, lost_in, lost_told, note_of, read_runs
-from .units import duration, window_of
+from .units import duration, several, window_of
 
 # The columns and the ages of each queue, counted from the log.
 CountedRun = tuple[dict[str, list[str]], dict[str, Ages]]
@@ -192,7 +192,7 @@ def overview_html(queues: dict[str, dict[str, Any]], drawn: list[str], dead_lett
     for name, values in queues.items():
         link = f'<a href="#{section_of(drawn.index(name) + 1)}">{escape(name)}</a>' if name in drawn else escape(name)
         count = values["came_by_redrive"]
-        told = f"{count:,} dead letter{'s' if count != 1 else ''}" if name in dead_letters else ""
+        told = several(count, "dead letter") if name in dead_letters else ""
         mark = ' class="fails"' if values["lost_by_expiry"] else ""
         lines += f"<tr{mark}><td>{link}</td>" + "".join(
             f"<td>{escape(cell)}</td>" for cell in (*cells_of(values), told)) + "</tr>\n"

@@ -52,11 +52,17 @@ def ways_of(scenario: Mapping[str, Any]) -> frozenset[tuple[str, str]]:
     """From which queue to which messages may go, by redrives, forwards and moves. A task without a destination brings
     each message back to where it came from."""
     redrives = [(queue.get("name"), queue.get("dead_letter")) for queue in items_of(scenario, "queue")]
-    forwards = [(actor.get("queue"), actor.get("forward")) for actor in items_of(scenario, "actor")]
+    forwards = [(actor.get("queue"), to) for actor in items_of(scenario, "actor") for to in forwards_of(actor)]
     moves = [(task.get("queue"), to) for task in items_of(scenario, "task") for to in (
         [task["to"]] if "to" in task else [name for name, dead in redrives if dead == task.get("queue")])]
     return frozenset((start, to) for start, to in (*redrives, *forwards, *moves)
                      if isinstance(start, str) and isinstance(to, str))
+
+
+def forwards_of(actor: Mapping[str, Any]) -> list[Any]:
+    """The queues to which an actor forwards each message: one, or those of a list."""
+    to = actor.get("forward", [])
+    return to if isinstance(to, list) else [to]
 
 
 def names_of_agents(actor: Mapping[str, Any]) -> list[str]:
@@ -103,6 +109,11 @@ def text_of_value(value: Any) -> str:
 
 def lines_of_table(table: Mapping[str, Any]) -> list[str]:
     return [f"{text_of_key(key)} = {text_of_value(value)}" for key, value in table.items()]
+
+
+def text_of_table(of: str, keys: Mapping[str, Any]) -> str:
+    """A table of a list of a scenario."""
+    return "\n".join([f"[[{of}]]", *lines_of_table(keys), ""])
 
 
 def written(scenario: Mapping[str, Any]) -> str:

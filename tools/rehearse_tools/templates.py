@@ -260,11 +260,19 @@ class Template:
     def add_subscription(self, place: str, endpoint: Any, topic: Any, properties: dict[str, Any]) -> None:
         queue = self.queue_of(place, endpoint, "sends to")
         if queue is not None:
-            self.wiring.subscriptions.append(Subscription(place, queue.name, self.label_of(topic),
-                                                          bool(properties.get("FilterPolicy"))))
+            self.wiring.subscriptions.append(Subscription(
+                place, queue.name, self.label_of(topic), source_of(topic), bool(properties.get("FilterPolicy"))))
 
     TAKES = {"AWS::Lambda::EventSourceMapping": take_mapping, "AWS::Serverless::Function": take_function,
              "AWS::SNS::Subscription": take_subscription, "AWS::SNS::Topic": take_topic}
+
+
+def source_of(topic: Any) -> str:
+    """What a template says of a topic, which is nothing if it is nested too deep."""
+    try:
+        return repr(topic) if topic else ""
+    except RecursionError:
+        return ""
 
 
 def yaml_in(text: str, path: str) -> Any:

@@ -41,6 +41,11 @@ def number_of(text: str) -> float:
     return float(text) if "." in text else int(text)
 
 
+def several(number: int, what: str) -> str:
+    """As 1 row, or 2 rows."""
+    return f"{number:,} {what}{'' if number == 1 else 's'}"
+
+
 def duration(milliseconds: int) -> str:
     """A time in two units, or with three digits."""
     for below, step in STEPS:

@@ -82,6 +82,30 @@ case_0_chance_of_outages_over_1000 : shown_upto 3 0 [] (codes "version = 3\nhori
 unfolding reading_on_literals running_on_literals columns_of
 case_0_chance_of_outages_over_1000 = refl
 
+-- faults-3/chances_beside_one_outage.toml
+case_0_chances_beside_one_outage : shown_upto 3 0 [] (codes "version = 3\nhorizon = 1000\n[[queue]]\nname = \"q\"\n[[queue]]\nname = \"f.fifo\"\n[[actor]]\nname = \"c\"\nkind = \"consumer\"\nqueue = \"q\"\nservice_min_ms = 1\nservice_max_ms = 1\nfails_from_ms = 5\nfails_to_ms = 6\nfails_permille = [500]\n")
+    ≡ refused (codes "refused 13 WrongType at actor[0].fails_permille\n")
+unfolding reading_on_literals running_on_literals columns_of
+case_0_chances_beside_one_outage = refl
+
+-- faults-3/chances_of_another_number.toml
+case_0_chances_of_another_number : shown_upto 3 0 [] (codes "version = 3\nhorizon = 1000\n[[queue]]\nname = \"q\"\n[[queue]]\nname = \"f.fifo\"\n[[actor]]\nname = \"c\"\nkind = \"consumer\"\nqueue = \"q\"\nservice_min_ms = 1\nservice_max_ms = 1\nfails_between_ms = [[0, 1000], [5000, 6000]]\nfails_permille = [500, 1000, \"x\"]\n")
+    ≡ refused (codes "refused 14 OutOfRange at actor[0].fails_permille\n")
+unfolding reading_on_literals running_on_literals columns_of
+case_0_chances_of_another_number = refl
+
+-- faults-3/chances_of_outages_over_1000.toml
+case_0_chances_of_outages_over_1000 : shown_upto 3 0 [] (codes "version = 3\nhorizon = 1000\n[[queue]]\nname = \"q\"\n[[queue]]\nname = \"f.fifo\"\n[[actor]]\nname = \"c\"\nkind = \"consumer\"\nqueue = \"q\"\nservice_min_ms = 1\nservice_max_ms = 1\nfails_between_ms = [[0, 1000], [5000, 6000]]\nfails_permille = [500, 1001]\n")
+    ≡ refused (codes "refused 14 OutOfRange at actor[0].fails_permille[1]\n")
+unfolding reading_on_literals running_on_literals columns_of
+case_0_chances_of_outages_over_1000 = refl
+
+-- faults-3/chances_that_are_none.toml
+case_0_chances_that_are_none : shown_upto 3 0 [] (codes "version = 3\nhorizon = 1000\n[[queue]]\nname = \"q\"\n[[queue]]\nname = \"f.fifo\"\n[[actor]]\nname = \"c\"\nkind = \"consumer\"\nqueue = \"q\"\nservice_min_ms = 1\nservice_max_ms = 1\nfails_between_ms = [[0, 1000]]\nfails_permille = []\n")
+    ≡ refused (codes "refused 14 OutOfRange at actor[0].fails_permille\n")
+unfolding reading_on_literals running_on_literals columns_of
+case_0_chances_that_are_none = refl
+
 -- faults-3/copies_after_the_other_keys.toml
 case_0_copies_after_the_other_keys : shown_upto 3 0 [] (codes "version = 3\nhorizon = 1000\n[[queue]]\nname = \"q\"\n[[queue]]\nname = \"f.fifo\"\n[[actor]]\nname = \"c\"\nkind = \"consumer\"\nqueue = \"q\"\nservice_min_ms = 1\nservice_max_ms = 1\ncopies = 0\nheartbeat_s = 0\n")
     ≡ refused (codes "refused 14 OutOfRange at actor[0].heartbeat_s\n")
@@ -225,6 +249,48 @@ case_0_first_permille_not_zero : shown_upto 3 0 [] (codes "version = 3\nhorizon 
     ≡ refused (codes "refused 14 OutOfRange at actor[0].gap[0]\n")
 unfolding reading_on_literals running_on_literals columns_of
 case_0_first_permille_not_zero = refl
+
+-- faults-3/forward_to_a_list_in_version_two.toml
+case_0_forward_to_a_list_in_version_two : shown_upto 3 0 [] (codes "version = 2\nhorizon = 1000\n[[queue]]\nname = \"q\"\n[[queue]]\nname = \"f.fifo\"\n[[actor]]\nname = \"c\"\nkind = \"consumer\"\nqueue = \"q\"\nservice_min_ms = 1\nservice_max_ms = 1\nforward = [\"q\"]\nlatency_min_ms = 1\nlatency_max_ms = 9\n")
+    ≡ refused (codes "refused 13 WrongType at actor[0].forward\n")
+unfolding reading_on_literals running_on_literals columns_of
+case_0_forward_to_a_list_in_version_two = refl
+
+-- faults-3/forward_to_a_number_in_a_list.toml
+case_0_forward_to_a_number_in_a_list : shown_upto 3 0 [] (codes "version = 3\nhorizon = 1000\n[[queue]]\nname = \"q\"\n[[queue]]\nname = \"f.fifo\"\n[[actor]]\nname = \"c\"\nkind = \"consumer\"\nqueue = \"q\"\nservice_min_ms = 1\nservice_max_ms = 1\nforward = [\"q\", 1]\nlatency_min_ms = 0\n")
+    ≡ refused (codes "refused 13 WrongType at actor[0].forward[1]\n")
+unfolding reading_on_literals running_on_literals columns_of
+case_0_forward_to_a_number_in_a_list = refl
+
+-- faults-3/forward_to_a_table.toml
+case_0_forward_to_a_table : shown_upto 3 0 [] (codes "version = 3\nhorizon = 1000\n[[queue]]\nname = \"q\"\n[[queue]]\nname = \"f.fifo\"\n[[actor]]\nname = \"c\"\nkind = \"consumer\"\nqueue = \"q\"\nservice_min_ms = 1\nservice_max_ms = 1\nforward = { a = \"q\" }\nlatency_min_ms = 1\nlatency_max_ms = 9\n")
+    ≡ refused (codes "refused 13 WrongType at actor[0].forward\n")
+unfolding reading_on_literals running_on_literals columns_of
+case_0_forward_to_a_table = refl
+
+-- faults-3/forward_to_an_unknown_queue_in_a_list.toml
+case_0_forward_to_an_unknown_queue_in_a_list : shown_upto 3 0 [] (codes "version = 3\nhorizon = 1000\n[[queue]]\nname = \"q\"\n[[queue]]\nname = \"f.fifo\"\n[[actor]]\nname = \"c\"\nkind = \"consumer\"\nqueue = \"q\"\nservice_min_ms = 1\nservice_max_ms = 1\nforward = [\"p\", \"f.fifo\"]\nlatency_min_ms = 1\nlatency_max_ms = 9\n")
+    ≡ refused (codes "refused 17 UnknownQueue at actor[0].forward[0]\n")
+unfolding reading_on_literals running_on_literals columns_of
+case_0_forward_to_an_unknown_queue_in_a_list = refl
+
+-- faults-3/forward_to_eleven_queues.toml
+case_0_forward_to_eleven_queues : shown_upto 3 0 [] (codes "version = 3\nhorizon = 1000\n[[queue]]\nname = \"q\"\n[[queue]]\nname = \"f.fifo\"\n[[actor]]\nname = \"c\"\nkind = \"consumer\"\nqueue = \"q\"\nservice_min_ms = 1\nservice_max_ms = 1\nforward = [\"q\", \"q\", \"q\", \"q\", \"q\", \"q\", \"q\", \"q\", \"q\", \"q\", 1]\nlatency_min_ms = 1\nlatency_max_ms = 9\n")
+    ≡ refused (codes "refused 19 TooMany at actor[0].forward\n")
+unfolding reading_on_literals running_on_literals columns_of
+case_0_forward_to_eleven_queues = refl
+
+-- faults-3/forward_to_no_queue.toml
+case_0_forward_to_no_queue : shown_upto 3 0 [] (codes "version = 3\nhorizon = 1000\n[[queue]]\nname = \"q\"\n[[queue]]\nname = \"f.fifo\"\n[[actor]]\nname = \"c\"\nkind = \"consumer\"\nqueue = \"q\"\nservice_min_ms = 1\nservice_max_ms = 1\nforward = []\nlatency_min_ms = 1\nlatency_max_ms = 9\n")
+    ≡ refused (codes "refused 14 OutOfRange at actor[0].forward\n")
+unfolding reading_on_literals running_on_literals columns_of
+case_0_forward_to_no_queue = refl
+
+-- faults-3/forward_to_the_other_kind_in_a_list.toml
+case_0_forward_to_the_other_kind_in_a_list : shown_upto 3 0 [] (codes "version = 3\nhorizon = 1000\n[[queue]]\nname = \"q\"\n[[queue]]\nname = \"f.fifo\"\n[[actor]]\nname = \"c\"\nkind = \"consumer\"\nqueue = \"q\"\nservice_min_ms = 1\nservice_max_ms = 1\nforward = [\"q\", \"f.fifo\", \"p\"]\nlatency_min_ms = 1\nlatency_max_ms = 9\n")
+    ≡ refused (codes "refused 18 KindMismatch at actor[0].forward[1]\n")
+unfolding reading_on_literals running_on_literals columns_of
+case_0_forward_to_the_other_kind_in_a_list = refl
 
 -- faults-3/fraction_for_a_permille.toml
 case_0_fraction_for_a_permille : shown_upto 3 0 [] (codes "version = 3\nhorizon = 1000\n[[queue]]\nname = \"q\"\n[[queue]]\nname = \"f.fifo\"\n[[actor]]\nname = \"c\"\nkind = \"consumer\"\nqueue = \"q\"\nservice = [[0, 1], [99.5, 2], [1000, 3]]\n")
@@ -543,6 +609,12 @@ case_0_text_for_a_backoff : shown_upto 3 0 [] (codes "version = 3\nhorizon = 100
     ≡ refused (codes "refused 13 WrongType at actor[0].backoff_s[0]\n")
 unfolding reading_on_literals running_on_literals columns_of
 case_0_text_for_a_backoff = refl
+
+-- faults-3/text_for_a_chance_of_outages.toml
+case_0_text_for_a_chance_of_outages : shown_upto 3 0 [] (codes "version = 3\nhorizon = 1000\n[[queue]]\nname = \"q\"\n[[queue]]\nname = \"f.fifo\"\n[[actor]]\nname = \"c\"\nkind = \"consumer\"\nqueue = \"q\"\nservice_min_ms = 1\nservice_max_ms = 1\nfails_between_ms = [[0, 1000], [5000, 6000]]\nfails_permille = [\"500\", 1001]\n")
+    ≡ refused (codes "refused 13 WrongType at actor[0].fails_permille[0]\n")
+unfolding reading_on_literals running_on_literals columns_of
+case_0_text_for_a_chance_of_outages = refl
 
 -- faults-3/text_for_a_permille.toml
 case_0_text_for_a_permille : shown_upto 3 0 [] (codes "version = 3\nhorizon = 1000\n[[queue]]\nname = \"q\"\n[[queue]]\nname = \"f.fifo\"\n[[actor]]\nname = \"c\"\nkind = \"consumer\"\nqueue = \"q\"\nservice = [[\"0\", 1], [1000, 1]]\n")

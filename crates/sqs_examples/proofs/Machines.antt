@@ -62,7 +62,7 @@ consumer home start to =
             fail_service = None;
             fail_permille = 0;
             idle = 86400000;
-            forward = Some (record { to = to; latency = record { least = 10; greatest = 10 } });
+            forward = Some (record { to = to ∷ []; latency = record { least = 10; greatest = 10 } });
             stop = None;
             fails_on = None;
             outages = [];
@@ -200,7 +200,7 @@ relay home start wait to =
             fail_service = None;
             fail_permille = 0;
             idle = 86400000;
-            forward = Some (record { to = to; latency = record { least = 10; greatest = 10 } });
+            forward = Some (record { to = to ∷ []; latency = record { least = 10; greatest = 10 } });
             stop = None;
             fails_on = None;
             outages = [];

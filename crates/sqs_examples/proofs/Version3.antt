@@ -452,6 +452,196 @@ case_0_fails_on_a_text : shown_upto 3 27 [] (codes "# Words of agent 1: 839.344 
 unfolding reading_on_literals running_on_literals columns_of
 case_0_fails_on_a_text = refl
 
+-- version-3/forward_draws_each_latency.toml
+case_0_forward_draws_each_latency : shown_upto 3 42 [] (codes "# Words of agent 2: 717.678 (time of the first service, 100 + 71), 447.024 (its chance, not below 400), then the latencies\n# of three forwards: 12.444 (50 + 1), 505.346 (50 + 50) and 192.088 (50 + 19). 387.809 (time of the second service,\n# 100 + 38) and 121.336 (its chance: it fails, and no latency is drawn). 70.690 (time of the third, 100 + 7), 584.602 (its\n# chance), and 831.091, 396.802 and 696.814 (latencies of 50 + 83, 50 + 39 and 50 + 69).\nversion = 3\nhorizon = 1000\n[[queue]]\nname = \"q\"\n[[queue]]\nname = \"p\"\n[[actor]]\nname = \"c\"\nkind = \"consumer\"\nqueue = \"q\"\nstart_ms = 10\nbatch = 3\nwait_s = 20\nservice_min_ms = 100\nservice_max_ms = 199\nfail_permille = 400\nforward = [\"p\", \"p\", \"p\"]\nlatency_min_ms = 50\nlatency_max_ms = 149\n[[actor]]\nname = \"s\"\nkind = \"script\"\nqueue = \"q\"\ncalls = \"\"\"\nat,call,body,group,id,delay,receipt,max,wait,timeout,task\n0,send,a,,,,,,,,\n1,send,b,,,,,,,,\n2,send,c,,,,,,,,\n\"\"\"\n")
+    ≡ ran (((codes "at") ∷ (codes "queue") ∷ (codes "agent") ∷ (codes "call") ∷ (codes "answer") ∷ (codes "message") ∷ (codes "receipt") ∷ (codes "detail") ∷ []) ∷
+    ((codes "0") ∷ (codes "q") ∷ (codes "s") ∷ (codes "send") ∷ (codes "new") ∷ (codes "m-0-0") ∷ [] ∷ digest (codes "a") ∷ []) ∷
+    ((codes "1") ∷ (codes "q") ∷ (codes "s") ∷ (codes "send") ∷ (codes "new") ∷ (codes "m-0-1") ∷ [] ∷ digest (codes "b") ∷ []) ∷
+    ((codes "2") ∷ (codes "q") ∷ (codes "s") ∷ (codes "send") ∷ (codes "new") ∷ (codes "m-0-2") ∷ [] ∷ digest (codes "c") ∷ []) ∷
+    ((codes "10") ∷ (codes "q") ∷ (codes "c") ∷ (codes "receive") ∷ (codes "ok") ∷ (codes "m-0-0") ∷ (codes "r-0-0-1") ∷ (codes "o-0-0") ∷ []) ∷
+    ((codes "10") ∷ (codes "q") ∷ (codes "c") ∷ (codes "receive") ∷ (codes "ok") ∷ (codes "m-0-1") ∷ (codes "r-0-1-1") ∷ (codes "o-0-1") ∷ []) ∷
+    ((codes "10") ∷ (codes "q") ∷ (codes "c") ∷ (codes "receive") ∷ (codes "ok") ∷ (codes "m-0-2") ∷ (codes "r-0-2-1") ∷ (codes "o-0-2") ∷ []) ∷
+    ((codes "181") ∷ (codes "q") ∷ (codes "c") ∷ (codes "forward") ∷ (codes "out") ∷ (codes "m-0-0") ∷ [] ∷ (codes "p") ∷ []) ∷
+    ((codes "181") ∷ (codes "q") ∷ (codes "c") ∷ (codes "forward") ∷ (codes "out") ∷ (codes "m-0-0") ∷ [] ∷ (codes "p") ∷ []) ∷
+    ((codes "181") ∷ (codes "q") ∷ (codes "c") ∷ (codes "forward") ∷ (codes "out") ∷ (codes "m-0-0") ∷ [] ∷ (codes "p") ∷ []) ∷
+    ((codes "181") ∷ (codes "q") ∷ (codes "c") ∷ (codes "delete") ∷ (codes "deleted") ∷ (codes "m-0-0") ∷ (codes "r-0-0-1") ∷ (codes "181") ∷ []) ∷
+    ((codes "232") ∷ (codes "p") ∷ (codes "c") ∷ (codes "arrive") ∷ (codes "new") ∷ (codes "m-1-0") ∷ [] ∷ (codes "o-1-0") ∷ []) ∷
+    ((codes "250") ∷ (codes "p") ∷ (codes "c") ∷ (codes "arrive") ∷ (codes "new") ∷ (codes "m-1-1") ∷ [] ∷ (codes "o-1-1") ∷ []) ∷
+    ((codes "281") ∷ (codes "p") ∷ (codes "c") ∷ (codes "arrive") ∷ (codes "new") ∷ (codes "m-1-2") ∷ [] ∷ (codes "o-1-2") ∷ []) ∷
+    ((codes "319") ∷ (codes "q") ∷ (codes "c") ∷ (codes "fail") ∷ (codes "ok") ∷ (codes "m-0-1") ∷ (codes "r-0-1-1") ∷ [] ∷ []) ∷
+    ((codes "426") ∷ (codes "q") ∷ (codes "c") ∷ (codes "forward") ∷ (codes "out") ∷ (codes "m-0-2") ∷ [] ∷ (codes "p") ∷ []) ∷
+    ((codes "426") ∷ (codes "q") ∷ (codes "c") ∷ (codes "forward") ∷ (codes "out") ∷ (codes "m-0-2") ∷ [] ∷ (codes "p") ∷ []) ∷
+    ((codes "426") ∷ (codes "q") ∷ (codes "c") ∷ (codes "forward") ∷ (codes "out") ∷ (codes "m-0-2") ∷ [] ∷ (codes "p") ∷ []) ∷
+    ((codes "426") ∷ (codes "q") ∷ (codes "c") ∷ (codes "delete") ∷ (codes "deleted") ∷ (codes "m-0-2") ∷ (codes "r-0-2-1") ∷ (codes "424") ∷ []) ∷
+    ((codes "427") ∷ (codes "q") ∷ (codes "c") ∷ (codes "receive") ∷ (codes "wait") ∷ [] ∷ [] ∷ [] ∷ []) ∷
+    ((codes "515") ∷ (codes "p") ∷ (codes "c") ∷ (codes "arrive") ∷ (codes "new") ∷ (codes "m-1-3") ∷ [] ∷ (codes "o-1-3") ∷ []) ∷
+    ((codes "545") ∷ (codes "p") ∷ (codes "c") ∷ (codes "arrive") ∷ (codes "new") ∷ (codes "m-1-4") ∷ [] ∷ (codes "o-1-4") ∷ []) ∷
+    ((codes "559") ∷ (codes "p") ∷ (codes "c") ∷ (codes "arrive") ∷ (codes "new") ∷ (codes "m-1-5") ∷ [] ∷ (codes "o-1-5") ∷ []) ∷
+    ((codes "final") ∷ (codes "queue") ∷ (codes "message") ∷ (codes "origin") ∷ (codes "place") ∷ (codes "due") ∷ (codes "enqueued") ∷ (codes "receives") ∷ (codes "group") ∷ (codes "md5") ∷ []) ∷
+    ((codes "final") ∷ (codes "q") ∷ (codes "m-0-1") ∷ (codes "o-0-1") ∷ (codes "inflight") ∷ (codes "30010") ∷ (codes "1") ∷ (codes "1") ∷ [] ∷ digest (codes "b") ∷ []) ∷
+    ((codes "final") ∷ (codes "p") ∷ (codes "m-1-0") ∷ (codes "o-1-0") ∷ (codes "visible") ∷ [] ∷ (codes "232") ∷ (codes "0") ∷ [] ∷ digest (codes "a") ∷ []) ∷
+    ((codes "final") ∷ (codes "p") ∷ (codes "m-1-1") ∷ (codes "o-1-1") ∷ (codes "visible") ∷ [] ∷ (codes "250") ∷ (codes "0") ∷ [] ∷ digest (codes "a") ∷ []) ∷
+    ((codes "final") ∷ (codes "p") ∷ (codes "m-1-2") ∷ (codes "o-1-2") ∷ (codes "visible") ∷ [] ∷ (codes "281") ∷ (codes "0") ∷ [] ∷ digest (codes "a") ∷ []) ∷
+    ((codes "final") ∷ (codes "p") ∷ (codes "m-1-3") ∷ (codes "o-1-3") ∷ (codes "visible") ∷ [] ∷ (codes "515") ∷ (codes "0") ∷ [] ∷ digest (codes "c") ∷ []) ∷
+    ((codes "final") ∷ (codes "p") ∷ (codes "m-1-4") ∷ (codes "o-1-4") ∷ (codes "visible") ∷ [] ∷ (codes "545") ∷ (codes "0") ∷ [] ∷ digest (codes "c") ∷ []) ∷
+    ((codes "final") ∷ (codes "p") ∷ (codes "m-1-5") ∷ (codes "o-1-5") ∷ (codes "visible") ∷ [] ∷ (codes "559") ∷ (codes "0") ∷ [] ∷ digest (codes "c") ∷ []) ∷
+    ((codes "transfer") ∷ (codes "from") ∷ (codes "to") ∷ (codes "kind") ∷ (codes "due") ∷ (codes "number") ∷ (codes "message") ∷ (codes "origin") ∷ (codes "md5") ∷ []) ∷
+    ((codes "task") ∷ (codes "name") ∷ (codes "status") ∷ (codes "moved") ∷ []) ∷
+    ((codes "report") ∷ (codes "queue") ∷ (codes "sends") ∷ (codes "repeats") ∷ (codes "receives") ∷ (codes "empties") ∷ (codes "deletes") ∷ (codes "expiries") ∷ (codes "redrives") ∷ (codes "moves") ∷ (codes "arrivals") ∷ (codes "OverLimit") ∷ (codes "MessageNotInflight") ∷ (codes "ReceiptHandleIsInvalid") ∷ (codes "BadTimeout") ∷ (codes "MissingGroup") ∷ (codes "MissingDeduplication") ∷ (codes "BadDelay") ∷ (codes "TaskRunning") ∷ (codes "NoTask") ∷ (codes "depth_max") ∷ (codes "visible") ∷ (codes "in_flight") ∷ (codes "delayed") ∷ (codes "age_sum") ∷ (codes "age_max") ∷ (codes "age_p50") ∷ (codes "age_p95") ∷ (codes "age_p99") ∷ []) ∷
+    ((codes "report") ∷ (codes "q") ∷ (codes "3") ∷ (codes "0") ∷ (codes "3") ∷ (codes "0") ∷ (codes "2") ∷ (codes "0") ∷ (codes "0") ∷ (codes "0") ∷ (codes "0") ∷ (codes "0") ∷ (codes "0") ∷ (codes "0") ∷ (codes "0") ∷ (codes "0") ∷ (codes "0") ∷ (codes "0") ∷ (codes "0") ∷ (codes "0") ∷ (codes "3") ∷ (codes "0") ∷ (codes "1") ∷ (codes "0") ∷ (codes "605") ∷ (codes "424") ∷ (codes "181") ∷ (codes "424") ∷ (codes "424") ∷ []) ∷
+    ((codes "report") ∷ (codes "p") ∷ (codes "0") ∷ (codes "0") ∷ (codes "0") ∷ (codes "0") ∷ (codes "0") ∷ (codes "0") ∷ (codes "0") ∷ (codes "0") ∷ (codes "6") ∷ (codes "0") ∷ (codes "0") ∷ (codes "0") ∷ (codes "0") ∷ (codes "0") ∷ (codes "0") ∷ (codes "0") ∷ (codes "0") ∷ (codes "0") ∷ (codes "6") ∷ (codes "6") ∷ (codes "0") ∷ (codes "0") ∷ (codes "0") ∷ [] ∷ [] ∷ [] ∷ [] ∷ []) ∷ [])
+unfolding reading_on_literals running_on_literals columns_of
+case_0_forward_draws_each_latency = refl
+
+-- version-3/forward_keeps_fifo_groups.toml
+case_0_forward_keeps_fifo_groups : shown_upto 3 39 [] (codes "# At each queue a forward has the group of the served message, and its id as deduplication id. So the second forward to\n# p.fifo is a repeat of the first.\nversion = 3\nhorizon = 1000\n[[queue]]\nname = \"q.fifo\"\n[[queue]]\nname = \"p.fifo\"\n[[queue]]\nname = \"r.fifo\"\n[[actor]]\nname = \"c\"\nkind = \"consumer\"\nqueue = \"q.fifo\"\nstart_ms = 10\nbatch = 2\nwait_s = 20\nservice_min_ms = 50\nservice_max_ms = 50\nforward = [\"p.fifo\", \"r.fifo\", \"p.fifo\"]\nlatency_min_ms = 30\nlatency_max_ms = 30\n[[actor]]\nname = \"s\"\nkind = \"script\"\nqueue = \"q.fifo\"\ncalls = \"\"\"\nat,call,body,group,id,delay,receipt,max,wait,timeout,task\n0,send,a,g,x,,,,,,\n1,send,b,h,y,,,,,,\n\"\"\"\n")
+    ≡ ran (((codes "at") ∷ (codes "queue") ∷ (codes "agent") ∷ (codes "call") ∷ (codes "answer") ∷ (codes "message") ∷ (codes "receipt") ∷ (codes "detail") ∷ []) ∷
+    ((codes "0") ∷ (codes "q.fifo") ∷ (codes "s") ∷ (codes "send") ∷ (codes "new") ∷ (codes "m-0-0") ∷ [] ∷ digest (codes "a") ∷ []) ∷
+    ((codes "1") ∷ (codes "q.fifo") ∷ (codes "s") ∷ (codes "send") ∷ (codes "new") ∷ (codes "m-0-1") ∷ [] ∷ digest (codes "b") ∷ []) ∷
+    ((codes "10") ∷ (codes "q.fifo") ∷ (codes "c") ∷ (codes "receive") ∷ (codes "ok") ∷ (codes "m-0-0") ∷ (codes "r-0-0-1") ∷ (codes "o-0-0") ∷ []) ∷
+    ((codes "10") ∷ (codes "q.fifo") ∷ (codes "c") ∷ (codes "receive") ∷ (codes "ok") ∷ (codes "m-0-1") ∷ (codes "r-0-1-1") ∷ (codes "o-0-1") ∷ []) ∷
+    ((codes "60") ∷ (codes "q.fifo") ∷ (codes "c") ∷ (codes "forward") ∷ (codes "out") ∷ (codes "m-0-0") ∷ [] ∷ (codes "p.fifo") ∷ []) ∷
+    ((codes "60") ∷ (codes "q.fifo") ∷ (codes "c") ∷ (codes "forward") ∷ (codes "out") ∷ (codes "m-0-0") ∷ [] ∷ (codes "r.fifo") ∷ []) ∷
+    ((codes "60") ∷ (codes "q.fifo") ∷ (codes "c") ∷ (codes "forward") ∷ (codes "out") ∷ (codes "m-0-0") ∷ [] ∷ (codes "p.fifo") ∷ []) ∷
+    ((codes "60") ∷ (codes "q.fifo") ∷ (codes "c") ∷ (codes "delete") ∷ (codes "deleted") ∷ (codes "m-0-0") ∷ (codes "r-0-0-1") ∷ (codes "60") ∷ []) ∷
+    ((codes "90") ∷ (codes "p.fifo") ∷ (codes "c") ∷ (codes "arrive") ∷ (codes "new") ∷ (codes "m-1-0") ∷ [] ∷ (codes "o-1-0") ∷ []) ∷
+    ((codes "90") ∷ (codes "r.fifo") ∷ (codes "c") ∷ (codes "arrive") ∷ (codes "new") ∷ (codes "m-2-0") ∷ [] ∷ (codes "o-2-0") ∷ []) ∷
+    ((codes "90") ∷ (codes "p.fifo") ∷ (codes "c") ∷ (codes "arrive") ∷ (codes "repeat") ∷ (codes "m-1-0") ∷ [] ∷ (codes "o-1-0") ∷ []) ∷
+    ((codes "110") ∷ (codes "q.fifo") ∷ (codes "c") ∷ (codes "forward") ∷ (codes "out") ∷ (codes "m-0-1") ∷ [] ∷ (codes "p.fifo") ∷ []) ∷
+    ((codes "110") ∷ (codes "q.fifo") ∷ (codes "c") ∷ (codes "forward") ∷ (codes "out") ∷ (codes "m-0-1") ∷ [] ∷ (codes "r.fifo") ∷ []) ∷
+    ((codes "110") ∷ (codes "q.fifo") ∷ (codes "c") ∷ (codes "forward") ∷ (codes "out") ∷ (codes "m-0-1") ∷ [] ∷ (codes "p.fifo") ∷ []) ∷
+    ((codes "110") ∷ (codes "q.fifo") ∷ (codes "c") ∷ (codes "delete") ∷ (codes "deleted") ∷ (codes "m-0-1") ∷ (codes "r-0-1-1") ∷ (codes "109") ∷ []) ∷
+    ((codes "111") ∷ (codes "q.fifo") ∷ (codes "c") ∷ (codes "receive") ∷ (codes "wait") ∷ [] ∷ [] ∷ [] ∷ []) ∷
+    ((codes "140") ∷ (codes "p.fifo") ∷ (codes "c") ∷ (codes "arrive") ∷ (codes "new") ∷ (codes "m-1-1") ∷ [] ∷ (codes "o-1-1") ∷ []) ∷
+    ((codes "140") ∷ (codes "r.fifo") ∷ (codes "c") ∷ (codes "arrive") ∷ (codes "new") ∷ (codes "m-2-1") ∷ [] ∷ (codes "o-2-1") ∷ []) ∷
+    ((codes "140") ∷ (codes "p.fifo") ∷ (codes "c") ∷ (codes "arrive") ∷ (codes "repeat") ∷ (codes "m-1-1") ∷ [] ∷ (codes "o-1-1") ∷ []) ∷
+    ((codes "final") ∷ (codes "queue") ∷ (codes "message") ∷ (codes "origin") ∷ (codes "place") ∷ (codes "due") ∷ (codes "enqueued") ∷ (codes "receives") ∷ (codes "group") ∷ (codes "md5") ∷ []) ∷
+    ((codes "final") ∷ (codes "p.fifo") ∷ (codes "m-1-0") ∷ (codes "o-1-0") ∷ (codes "visible") ∷ [] ∷ (codes "90") ∷ (codes "0") ∷ (codes "g") ∷ digest (codes "a") ∷ []) ∷
+    ((codes "final") ∷ (codes "p.fifo") ∷ (codes "m-1-1") ∷ (codes "o-1-1") ∷ (codes "visible") ∷ [] ∷ (codes "140") ∷ (codes "0") ∷ (codes "h") ∷ digest (codes "b") ∷ []) ∷
+    ((codes "final") ∷ (codes "r.fifo") ∷ (codes "m-2-0") ∷ (codes "o-2-0") ∷ (codes "visible") ∷ [] ∷ (codes "90") ∷ (codes "0") ∷ (codes "g") ∷ digest (codes "a") ∷ []) ∷
+    ((codes "final") ∷ (codes "r.fifo") ∷ (codes "m-2-1") ∷ (codes "o-2-1") ∷ (codes "visible") ∷ [] ∷ (codes "140") ∷ (codes "0") ∷ (codes "h") ∷ digest (codes "b") ∷ []) ∷
+    ((codes "transfer") ∷ (codes "from") ∷ (codes "to") ∷ (codes "kind") ∷ (codes "due") ∷ (codes "number") ∷ (codes "message") ∷ (codes "origin") ∷ (codes "md5") ∷ []) ∷
+    ((codes "task") ∷ (codes "name") ∷ (codes "status") ∷ (codes "moved") ∷ []) ∷
+    ((codes "report") ∷ (codes "queue") ∷ (codes "sends") ∷ (codes "repeats") ∷ (codes "receives") ∷ (codes "empties") ∷ (codes "deletes") ∷ (codes "expiries") ∷ (codes "redrives") ∷ (codes "moves") ∷ (codes "arrivals") ∷ (codes "OverLimit") ∷ (codes "MessageNotInflight") ∷ (codes "ReceiptHandleIsInvalid") ∷ (codes "BadTimeout") ∷ (codes "MissingGroup") ∷ (codes "MissingDeduplication") ∷ (codes "BadDelay") ∷ (codes "TaskRunning") ∷ (codes "NoTask") ∷ (codes "depth_max") ∷ (codes "visible") ∷ (codes "in_flight") ∷ (codes "delayed") ∷ (codes "age_sum") ∷ (codes "age_max") ∷ (codes "age_p50") ∷ (codes "age_p95") ∷ (codes "age_p99") ∷ []) ∷
+    ((codes "report") ∷ (codes "q.fifo") ∷ (codes "2") ∷ (codes "0") ∷ (codes "2") ∷ (codes "0") ∷ (codes "2") ∷ (codes "0") ∷ (codes "0") ∷ (codes "0") ∷ (codes "0") ∷ (codes "0") ∷ (codes "0") ∷ (codes "0") ∷ (codes "0") ∷ (codes "0") ∷ (codes "0") ∷ (codes "0") ∷ (codes "0") ∷ (codes "0") ∷ (codes "2") ∷ (codes "0") ∷ (codes "0") ∷ (codes "0") ∷ (codes "169") ∷ (codes "109") ∷ (codes "60") ∷ (codes "109") ∷ (codes "109") ∷ []) ∷
+    ((codes "report") ∷ (codes "p.fifo") ∷ (codes "0") ∷ (codes "2") ∷ (codes "0") ∷ (codes "0") ∷ (codes "0") ∷ (codes "0") ∷ (codes "0") ∷ (codes "0") ∷ (codes "2") ∷ (codes "0") ∷ (codes "0") ∷ (codes "0") ∷ (codes "0") ∷ (codes "0") ∷ (codes "0") ∷ (codes "0") ∷ (codes "0") ∷ (codes "0") ∷ (codes "2") ∷ (codes "2") ∷ (codes "0") ∷ (codes "0") ∷ (codes "0") ∷ [] ∷ [] ∷ [] ∷ [] ∷ []) ∷
+    ((codes "report") ∷ (codes "r.fifo") ∷ (codes "0") ∷ (codes "0") ∷ (codes "0") ∷ (codes "0") ∷ (codes "0") ∷ (codes "0") ∷ (codes "0") ∷ (codes "0") ∷ (codes "2") ∷ (codes "0") ∷ (codes "0") ∷ (codes "0") ∷ (codes "0") ∷ (codes "0") ∷ (codes "0") ∷ (codes "0") ∷ (codes "0") ∷ (codes "0") ∷ (codes "2") ∷ (codes "2") ∷ (codes "0") ∷ (codes "0") ∷ (codes "0") ∷ [] ∷ [] ∷ [] ∷ [] ∷ []) ∷ [])
+unfolding reading_on_literals running_on_literals columns_of
+case_0_forward_keeps_fifo_groups = refl
+
+-- version-3/forward_to_a_list_of_one.toml
+case_0_forward_to_a_list_of_one : shown_upto 3 26 [] (codes "# A list of one queue is the same as its name.\nversion = 3\nhorizon = 1000\n[[queue]]\nname = \"q\"\n[[queue]]\nname = \"p\"\n[[actor]]\nname = \"c\"\nkind = \"consumer\"\nqueue = \"q\"\nstart_ms = 10\nwait_s = 20\nservice_min_ms = 50\nservice_max_ms = 50\nforward = [\"p\"]\nlatency_min_ms = 30\nlatency_max_ms = 30\n[[actor]]\nname = \"s\"\nkind = \"script\"\nqueue = \"q\"\ncalls = \"\"\"\nat,call,body,group,id,delay,receipt,max,wait,timeout,task\n0,send,a,,,,,,,,\n\"\"\"\n")
+    ≡ ran (((codes "at") ∷ (codes "queue") ∷ (codes "agent") ∷ (codes "call") ∷ (codes "answer") ∷ (codes "message") ∷ (codes "receipt") ∷ (codes "detail") ∷ []) ∷
+    ((codes "0") ∷ (codes "q") ∷ (codes "s") ∷ (codes "send") ∷ (codes "new") ∷ (codes "m-0-0") ∷ [] ∷ digest (codes "a") ∷ []) ∷
+    ((codes "10") ∷ (codes "q") ∷ (codes "c") ∷ (codes "receive") ∷ (codes "ok") ∷ (codes "m-0-0") ∷ (codes "r-0-0-1") ∷ (codes "o-0-0") ∷ []) ∷
+    ((codes "60") ∷ (codes "q") ∷ (codes "c") ∷ (codes "forward") ∷ (codes "out") ∷ (codes "m-0-0") ∷ [] ∷ (codes "p") ∷ []) ∷
+    ((codes "60") ∷ (codes "q") ∷ (codes "c") ∷ (codes "delete") ∷ (codes "deleted") ∷ (codes "m-0-0") ∷ (codes "r-0-0-1") ∷ (codes "60") ∷ []) ∷
+    ((codes "61") ∷ (codes "q") ∷ (codes "c") ∷ (codes "receive") ∷ (codes "wait") ∷ [] ∷ [] ∷ [] ∷ []) ∷
+    ((codes "90") ∷ (codes "p") ∷ (codes "c") ∷ (codes "arrive") ∷ (codes "new") ∷ (codes "m-1-0") ∷ [] ∷ (codes "o-1-0") ∷ []) ∷
+    ((codes "final") ∷ (codes "queue") ∷ (codes "message") ∷ (codes "origin") ∷ (codes "place") ∷ (codes "due") ∷ (codes "enqueued") ∷ (codes "receives") ∷ (codes "group") ∷ (codes "md5") ∷ []) ∷
+    ((codes "final") ∷ (codes "p") ∷ (codes "m-1-0") ∷ (codes "o-1-0") ∷ (codes "visible") ∷ [] ∷ (codes "90") ∷ (codes "0") ∷ [] ∷ digest (codes "a") ∷ []) ∷
+    ((codes "transfer") ∷ (codes "from") ∷ (codes "to") ∷ (codes "kind") ∷ (codes "due") ∷ (codes "number") ∷ (codes "message") ∷ (codes "origin") ∷ (codes "md5") ∷ []) ∷
+    ((codes "task") ∷ (codes "name") ∷ (codes "status") ∷ (codes "moved") ∷ []) ∷
+    ((codes "report") ∷ (codes "queue") ∷ (codes "sends") ∷ (codes "repeats") ∷ (codes "receives") ∷ (codes "empties") ∷ (codes "deletes") ∷ (codes "expiries") ∷ (codes "redrives") ∷ (codes "moves") ∷ (codes "arrivals") ∷ (codes "OverLimit") ∷ (codes "MessageNotInflight") ∷ (codes "ReceiptHandleIsInvalid") ∷ (codes "BadTimeout") ∷ (codes "MissingGroup") ∷ (codes "MissingDeduplication") ∷ (codes "BadDelay") ∷ (codes "TaskRunning") ∷ (codes "NoTask") ∷ (codes "depth_max") ∷ (codes "visible") ∷ (codes "in_flight") ∷ (codes "delayed") ∷ (codes "age_sum") ∷ (codes "age_max") ∷ (codes "age_p50") ∷ (codes "age_p95") ∷ (codes "age_p99") ∷ []) ∷
+    ((codes "report") ∷ (codes "q") ∷ (codes "1") ∷ (codes "0") ∷ (codes "1") ∷ (codes "0") ∷ (codes "1") ∷ (codes "0") ∷ (codes "0") ∷ (codes "0") ∷ (codes "0") ∷ (codes "0") ∷ (codes "0") ∷ (codes "0") ∷ (codes "0") ∷ (codes "0") ∷ (codes "0") ∷ (codes "0") ∷ (codes "0") ∷ (codes "0") ∷ (codes "1") ∷ (codes "0") ∷ (codes "0") ∷ (codes "0") ∷ (codes "60") ∷ (codes "60") ∷ (codes "60") ∷ (codes "60") ∷ (codes "60") ∷ []) ∷
+    ((codes "report") ∷ (codes "p") ∷ (codes "0") ∷ (codes "0") ∷ (codes "0") ∷ (codes "0") ∷ (codes "0") ∷ (codes "0") ∷ (codes "0") ∷ (codes "0") ∷ (codes "1") ∷ (codes "0") ∷ (codes "0") ∷ (codes "0") ∷ (codes "0") ∷ (codes "0") ∷ (codes "0") ∷ (codes "0") ∷ (codes "0") ∷ (codes "0") ∷ (codes "1") ∷ (codes "1") ∷ (codes "0") ∷ (codes "0") ∷ (codes "0") ∷ [] ∷ [] ∷ [] ∷ [] ∷ []) ∷ [])
+unfolding reading_on_literals running_on_literals columns_of
+case_0_forward_to_a_list_of_one = refl
+
+-- version-3/forward_to_a_queue_twice.toml
+case_0_forward_to_a_queue_twice : shown_upto 3 30 [] (codes "# A standard queue that is named twice gets two messages, which know nothing of each other.\nversion = 3\nhorizon = 1000\n[[queue]]\nname = \"q\"\n[[queue]]\nname = \"p\"\n[[queue]]\nname = \"r\"\n[[actor]]\nname = \"c\"\nkind = \"consumer\"\nqueue = \"q\"\nstart_ms = 10\nwait_s = 20\nservice_min_ms = 50\nservice_max_ms = 50\nforward = [\"p\", \"r\", \"p\"]\nlatency_min_ms = 30\nlatency_max_ms = 30\n[[actor]]\nname = \"s\"\nkind = \"script\"\nqueue = \"q\"\ncalls = \"\"\"\nat,call,body,group,id,delay,receipt,max,wait,timeout,task\n0,send,a,,,,,,,,\n\"\"\"\n")
+    ≡ ran (((codes "at") ∷ (codes "queue") ∷ (codes "agent") ∷ (codes "call") ∷ (codes "answer") ∷ (codes "message") ∷ (codes "receipt") ∷ (codes "detail") ∷ []) ∷
+    ((codes "0") ∷ (codes "q") ∷ (codes "s") ∷ (codes "send") ∷ (codes "new") ∷ (codes "m-0-0") ∷ [] ∷ digest (codes "a") ∷ []) ∷
+    ((codes "10") ∷ (codes "q") ∷ (codes "c") ∷ (codes "receive") ∷ (codes "ok") ∷ (codes "m-0-0") ∷ (codes "r-0-0-1") ∷ (codes "o-0-0") ∷ []) ∷
+    ((codes "60") ∷ (codes "q") ∷ (codes "c") ∷ (codes "forward") ∷ (codes "out") ∷ (codes "m-0-0") ∷ [] ∷ (codes "p") ∷ []) ∷
+    ((codes "60") ∷ (codes "q") ∷ (codes "c") ∷ (codes "forward") ∷ (codes "out") ∷ (codes "m-0-0") ∷ [] ∷ (codes "r") ∷ []) ∷
+    ((codes "60") ∷ (codes "q") ∷ (codes "c") ∷ (codes "forward") ∷ (codes "out") ∷ (codes "m-0-0") ∷ [] ∷ (codes "p") ∷ []) ∷
+    ((codes "60") ∷ (codes "q") ∷ (codes "c") ∷ (codes "delete") ∷ (codes "deleted") ∷ (codes "m-0-0") ∷ (codes "r-0-0-1") ∷ (codes "60") ∷ []) ∷
+    ((codes "61") ∷ (codes "q") ∷ (codes "c") ∷ (codes "receive") ∷ (codes "wait") ∷ [] ∷ [] ∷ [] ∷ []) ∷
+    ((codes "90") ∷ (codes "p") ∷ (codes "c") ∷ (codes "arrive") ∷ (codes "new") ∷ (codes "m-1-0") ∷ [] ∷ (codes "o-1-0") ∷ []) ∷
+    ((codes "90") ∷ (codes "r") ∷ (codes "c") ∷ (codes "arrive") ∷ (codes "new") ∷ (codes "m-2-0") ∷ [] ∷ (codes "o-2-0") ∷ []) ∷
+    ((codes "90") ∷ (codes "p") ∷ (codes "c") ∷ (codes "arrive") ∷ (codes "new") ∷ (codes "m-1-1") ∷ [] ∷ (codes "o-1-1") ∷ []) ∷
+    ((codes "final") ∷ (codes "queue") ∷ (codes "message") ∷ (codes "origin") ∷ (codes "place") ∷ (codes "due") ∷ (codes "enqueued") ∷ (codes "receives") ∷ (codes "group") ∷ (codes "md5") ∷ []) ∷
+    ((codes "final") ∷ (codes "p") ∷ (codes "m-1-0") ∷ (codes "o-1-0") ∷ (codes "visible") ∷ [] ∷ (codes "90") ∷ (codes "0") ∷ [] ∷ digest (codes "a") ∷ []) ∷
+    ((codes "final") ∷ (codes "p") ∷ (codes "m-1-1") ∷ (codes "o-1-1") ∷ (codes "visible") ∷ [] ∷ (codes "90") ∷ (codes "0") ∷ [] ∷ digest (codes "a") ∷ []) ∷
+    ((codes "final") ∷ (codes "r") ∷ (codes "m-2-0") ∷ (codes "o-2-0") ∷ (codes "visible") ∷ [] ∷ (codes "90") ∷ (codes "0") ∷ [] ∷ digest (codes "a") ∷ []) ∷
+    ((codes "transfer") ∷ (codes "from") ∷ (codes "to") ∷ (codes "kind") ∷ (codes "due") ∷ (codes "number") ∷ (codes "message") ∷ (codes "origin") ∷ (codes "md5") ∷ []) ∷
+    ((codes "task") ∷ (codes "name") ∷ (codes "status") ∷ (codes "moved") ∷ []) ∷
+    ((codes "report") ∷ (codes "queue") ∷ (codes "sends") ∷ (codes "repeats") ∷ (codes "receives") ∷ (codes "empties") ∷ (codes "deletes") ∷ (codes "expiries") ∷ (codes "redrives") ∷ (codes "moves") ∷ (codes "arrivals") ∷ (codes "OverLimit") ∷ (codes "MessageNotInflight") ∷ (codes "ReceiptHandleIsInvalid") ∷ (codes "BadTimeout") ∷ (codes "MissingGroup") ∷ (codes "MissingDeduplication") ∷ (codes "BadDelay") ∷ (codes "TaskRunning") ∷ (codes "NoTask") ∷ (codes "depth_max") ∷ (codes "visible") ∷ (codes "in_flight") ∷ (codes "delayed") ∷ (codes "age_sum") ∷ (codes "age_max") ∷ (codes "age_p50") ∷ (codes "age_p95") ∷ (codes "age_p99") ∷ []) ∷
+    ((codes "report") ∷ (codes "q") ∷ (codes "1") ∷ (codes "0") ∷ (codes "1") ∷ (codes "0") ∷ (codes "1") ∷ (codes "0") ∷ (codes "0") ∷ (codes "0") ∷ (codes "0") ∷ (codes "0") ∷ (codes "0") ∷ (codes "0") ∷ (codes "0") ∷ (codes "0") ∷ (codes "0") ∷ (codes "0") ∷ (codes "0") ∷ (codes "0") ∷ (codes "1") ∷ (codes "0") ∷ (codes "0") ∷ (codes "0") ∷ (codes "60") ∷ (codes "60") ∷ (codes "60") ∷ (codes "60") ∷ (codes "60") ∷ []) ∷
+    ((codes "report") ∷ (codes "p") ∷ (codes "0") ∷ (codes "0") ∷ (codes "0") ∷ (codes "0") ∷ (codes "0") ∷ (codes "0") ∷ (codes "0") ∷ (codes "0") ∷ (codes "2") ∷ (codes "0") ∷ (codes "0") ∷ (codes "0") ∷ (codes "0") ∷ (codes "0") ∷ (codes "0") ∷ (codes "0") ∷ (codes "0") ∷ (codes "0") ∷ (codes "2") ∷ (codes "2") ∷ (codes "0") ∷ (codes "0") ∷ (codes "0") ∷ [] ∷ [] ∷ [] ∷ [] ∷ []) ∷
+    ((codes "report") ∷ (codes "r") ∷ (codes "0") ∷ (codes "0") ∷ (codes "0") ∷ (codes "0") ∷ (codes "0") ∷ (codes "0") ∷ (codes "0") ∷ (codes "0") ∷ (codes "1") ∷ (codes "0") ∷ (codes "0") ∷ (codes "0") ∷ (codes "0") ∷ (codes "0") ∷ (codes "0") ∷ (codes "0") ∷ (codes "0") ∷ (codes "0") ∷ (codes "1") ∷ (codes "1") ∷ (codes "0") ∷ (codes "0") ∷ (codes "0") ∷ [] ∷ [] ∷ [] ∷ [] ∷ []) ∷ [])
+unfolding reading_on_literals running_on_literals columns_of
+case_0_forward_to_a_queue_twice = refl
+
+-- version-3/forward_to_the_home_and_another.toml
+case_0_forward_to_the_home_and_another : shown_upto 3 40 [] (codes "# Each service brings one message back to q and sends one to p. At the horizon the last two are under way.\nversion = 3\nhorizon = 390\n[[queue]]\nname = \"q\"\n[[queue]]\nname = \"p\"\n[[actor]]\nname = \"c\"\nkind = \"consumer\"\nqueue = \"q\"\nstart_ms = 10\nwait_s = 20\nservice_min_ms = 100\nservice_max_ms = 100\nforward = [\"q\", \"p\"]\nlatency_min_ms = 30\nlatency_max_ms = 30\n[[actor]]\nname = \"s\"\nkind = \"script\"\nqueue = \"q\"\ncalls = \"\"\"\nat,call,body,group,id,delay,receipt,max,wait,timeout,task\n0,send,a,,,,,,,,\n\"\"\"\n")
+    ≡ ran (((codes "at") ∷ (codes "queue") ∷ (codes "agent") ∷ (codes "call") ∷ (codes "answer") ∷ (codes "message") ∷ (codes "receipt") ∷ (codes "detail") ∷ []) ∷
+    ((codes "0") ∷ (codes "q") ∷ (codes "s") ∷ (codes "send") ∷ (codes "new") ∷ (codes "m-0-0") ∷ [] ∷ digest (codes "a") ∷ []) ∷
+    ((codes "10") ∷ (codes "q") ∷ (codes "c") ∷ (codes "receive") ∷ (codes "ok") ∷ (codes "m-0-0") ∷ (codes "r-0-0-1") ∷ (codes "o-0-0") ∷ []) ∷
+    ((codes "110") ∷ (codes "q") ∷ (codes "c") ∷ (codes "forward") ∷ (codes "out") ∷ (codes "m-0-0") ∷ [] ∷ (codes "q") ∷ []) ∷
+    ((codes "110") ∷ (codes "q") ∷ (codes "c") ∷ (codes "forward") ∷ (codes "out") ∷ (codes "m-0-0") ∷ [] ∷ (codes "p") ∷ []) ∷
+    ((codes "110") ∷ (codes "q") ∷ (codes "c") ∷ (codes "delete") ∷ (codes "deleted") ∷ (codes "m-0-0") ∷ (codes "r-0-0-1") ∷ (codes "110") ∷ []) ∷
+    ((codes "111") ∷ (codes "q") ∷ (codes "c") ∷ (codes "receive") ∷ (codes "wait") ∷ [] ∷ [] ∷ [] ∷ []) ∷
+    ((codes "140") ∷ (codes "q") ∷ (codes "c") ∷ (codes "arrive") ∷ (codes "new") ∷ (codes "m-0-1") ∷ [] ∷ (codes "o-0-1") ∷ []) ∷
+    ((codes "140") ∷ (codes "q") ∷ (codes "c") ∷ (codes "receive") ∷ (codes "ok") ∷ (codes "m-0-1") ∷ (codes "r-0-1-1") ∷ (codes "o-0-1") ∷ []) ∷
+    ((codes "140") ∷ (codes "p") ∷ (codes "c") ∷ (codes "arrive") ∷ (codes "new") ∷ (codes "m-1-0") ∷ [] ∷ (codes "o-1-0") ∷ []) ∷
+    ((codes "240") ∷ (codes "q") ∷ (codes "c") ∷ (codes "forward") ∷ (codes "out") ∷ (codes "m-0-1") ∷ [] ∷ (codes "q") ∷ []) ∷
+    ((codes "240") ∷ (codes "q") ∷ (codes "c") ∷ (codes "forward") ∷ (codes "out") ∷ (codes "m-0-1") ∷ [] ∷ (codes "p") ∷ []) ∷
+    ((codes "240") ∷ (codes "q") ∷ (codes "c") ∷ (codes "delete") ∷ (codes "deleted") ∷ (codes "m-0-1") ∷ (codes "r-0-1-1") ∷ (codes "100") ∷ []) ∷
+    ((codes "241") ∷ (codes "q") ∷ (codes "c") ∷ (codes "receive") ∷ (codes "wait") ∷ [] ∷ [] ∷ [] ∷ []) ∷
+    ((codes "270") ∷ (codes "q") ∷ (codes "c") ∷ (codes "arrive") ∷ (codes "new") ∷ (codes "m-0-2") ∷ [] ∷ (codes "o-0-2") ∷ []) ∷
+    ((codes "270") ∷ (codes "q") ∷ (codes "c") ∷ (codes "receive") ∷ (codes "ok") ∷ (codes "m-0-2") ∷ (codes "r-0-2-1") ∷ (codes "o-0-2") ∷ []) ∷
+    ((codes "270") ∷ (codes "p") ∷ (codes "c") ∷ (codes "arrive") ∷ (codes "new") ∷ (codes "m-1-1") ∷ [] ∷ (codes "o-1-1") ∷ []) ∷
+    ((codes "370") ∷ (codes "q") ∷ (codes "c") ∷ (codes "forward") ∷ (codes "out") ∷ (codes "m-0-2") ∷ [] ∷ (codes "q") ∷ []) ∷
+    ((codes "370") ∷ (codes "q") ∷ (codes "c") ∷ (codes "forward") ∷ (codes "out") ∷ (codes "m-0-2") ∷ [] ∷ (codes "p") ∷ []) ∷
+    ((codes "370") ∷ (codes "q") ∷ (codes "c") ∷ (codes "delete") ∷ (codes "deleted") ∷ (codes "m-0-2") ∷ (codes "r-0-2-1") ∷ (codes "100") ∷ []) ∷
+    ((codes "371") ∷ (codes "q") ∷ (codes "c") ∷ (codes "receive") ∷ (codes "wait") ∷ [] ∷ [] ∷ [] ∷ []) ∷
+    ((codes "final") ∷ (codes "queue") ∷ (codes "message") ∷ (codes "origin") ∷ (codes "place") ∷ (codes "due") ∷ (codes "enqueued") ∷ (codes "receives") ∷ (codes "group") ∷ (codes "md5") ∷ []) ∷
+    ((codes "final") ∷ (codes "p") ∷ (codes "m-1-0") ∷ (codes "o-1-0") ∷ (codes "visible") ∷ [] ∷ (codes "140") ∷ (codes "0") ∷ [] ∷ digest (codes "a") ∷ []) ∷
+    ((codes "final") ∷ (codes "p") ∷ (codes "m-1-1") ∷ (codes "o-1-1") ∷ (codes "visible") ∷ [] ∷ (codes "270") ∷ (codes "0") ∷ [] ∷ digest (codes "a") ∷ []) ∷
+    ((codes "transfer") ∷ (codes "from") ∷ (codes "to") ∷ (codes "kind") ∷ (codes "due") ∷ (codes "number") ∷ (codes "message") ∷ (codes "origin") ∷ (codes "md5") ∷ []) ∷
+    ((codes "transfer") ∷ (codes "q") ∷ (codes "q") ∷ (codes "forward") ∷ (codes "400") ∷ (codes "4") ∷ (codes "m-0-2") ∷ [] ∷ digest (codes "a") ∷ []) ∷
+    ((codes "transfer") ∷ (codes "q") ∷ (codes "p") ∷ (codes "forward") ∷ (codes "400") ∷ (codes "5") ∷ (codes "m-0-2") ∷ [] ∷ digest (codes "a") ∷ []) ∷
+    ((codes "task") ∷ (codes "name") ∷ (codes "status") ∷ (codes "moved") ∷ []) ∷
+    ((codes "report") ∷ (codes "queue") ∷ (codes "sends") ∷ (codes "repeats") ∷ (codes "receives") ∷ (codes "empties") ∷ (codes "deletes") ∷ (codes "expiries") ∷ (codes "redrives") ∷ (codes "moves") ∷ (codes "arrivals") ∷ (codes "OverLimit") ∷ (codes "MessageNotInflight") ∷ (codes "ReceiptHandleIsInvalid") ∷ (codes "BadTimeout") ∷ (codes "MissingGroup") ∷ (codes "MissingDeduplication") ∷ (codes "BadDelay") ∷ (codes "TaskRunning") ∷ (codes "NoTask") ∷ (codes "depth_max") ∷ (codes "visible") ∷ (codes "in_flight") ∷ (codes "delayed") ∷ (codes "age_sum") ∷ (codes "age_max") ∷ (codes "age_p50") ∷ (codes "age_p95") ∷ (codes "age_p99") ∷ []) ∷
+    ((codes "report") ∷ (codes "q") ∷ (codes "1") ∷ (codes "0") ∷ (codes "3") ∷ (codes "0") ∷ (codes "3") ∷ (codes "0") ∷ (codes "0") ∷ (codes "0") ∷ (codes "2") ∷ (codes "0") ∷ (codes "0") ∷ (codes "0") ∷ (codes "0") ∷ (codes "0") ∷ (codes "0") ∷ (codes "0") ∷ (codes "0") ∷ (codes "0") ∷ (codes "1") ∷ (codes "0") ∷ (codes "0") ∷ (codes "0") ∷ (codes "310") ∷ (codes "110") ∷ (codes "100") ∷ (codes "110") ∷ (codes "110") ∷ []) ∷
+    ((codes "report") ∷ (codes "p") ∷ (codes "0") ∷ (codes "0") ∷ (codes "0") ∷ (codes "0") ∷ (codes "0") ∷ (codes "0") ∷ (codes "0") ∷ (codes "0") ∷ (codes "2") ∷ (codes "0") ∷ (codes "0") ∷ (codes "0") ∷ (codes "0") ∷ (codes "0") ∷ (codes "0") ∷ (codes "0") ∷ (codes "0") ∷ (codes "0") ∷ (codes "2") ∷ (codes "2") ∷ (codes "0") ∷ (codes "0") ∷ (codes "0") ∷ [] ∷ [] ∷ [] ∷ [] ∷ []) ∷ [])
+unfolding reading_on_literals running_on_literals columns_of
+case_0_forward_to_the_home_and_another = refl
+
+-- version-3/forward_to_two_queues.toml
+case_0_forward_to_two_queues : shown_upto 3 35 [] (codes "# A message goes to each queue of the list, in this order, and both take 30 ms. At 90 and at 140 the transfers arrive by\n# their numbers: the one to r was sent first.\nversion = 3\nhorizon = 1000\n[[queue]]\nname = \"q\"\n[[queue]]\nname = \"p\"\n[[queue]]\nname = \"r\"\n[[actor]]\nname = \"c\"\nkind = \"consumer\"\nqueue = \"q\"\nstart_ms = 10\nbatch = 2\nwait_s = 20\nservice_min_ms = 50\nservice_max_ms = 50\nforward = [\"r\", \"p\"]\nlatency_min_ms = 30\nlatency_max_ms = 30\n[[actor]]\nname = \"s\"\nkind = \"script\"\nqueue = \"q\"\ncalls = \"\"\"\nat,call,body,group,id,delay,receipt,max,wait,timeout,task\n0,send,a,,,,,,,,\n1,send,b,,,,,,,,\n\"\"\"\n")
+    ≡ ran (((codes "at") ∷ (codes "queue") ∷ (codes "agent") ∷ (codes "call") ∷ (codes "answer") ∷ (codes "message") ∷ (codes "receipt") ∷ (codes "detail") ∷ []) ∷
+    ((codes "0") ∷ (codes "q") ∷ (codes "s") ∷ (codes "send") ∷ (codes "new") ∷ (codes "m-0-0") ∷ [] ∷ digest (codes "a") ∷ []) ∷
+    ((codes "1") ∷ (codes "q") ∷ (codes "s") ∷ (codes "send") ∷ (codes "new") ∷ (codes "m-0-1") ∷ [] ∷ digest (codes "b") ∷ []) ∷
+    ((codes "10") ∷ (codes "q") ∷ (codes "c") ∷ (codes "receive") ∷ (codes "ok") ∷ (codes "m-0-0") ∷ (codes "r-0-0-1") ∷ (codes "o-0-0") ∷ []) ∷
+    ((codes "10") ∷ (codes "q") ∷ (codes "c") ∷ (codes "receive") ∷ (codes "ok") ∷ (codes "m-0-1") ∷ (codes "r-0-1-1") ∷ (codes "o-0-1") ∷ []) ∷
+    ((codes "60") ∷ (codes "q") ∷ (codes "c") ∷ (codes "forward") ∷ (codes "out") ∷ (codes "m-0-0") ∷ [] ∷ (codes "r") ∷ []) ∷
+    ((codes "60") ∷ (codes "q") ∷ (codes "c") ∷ (codes "forward") ∷ (codes "out") ∷ (codes "m-0-0") ∷ [] ∷ (codes "p") ∷ []) ∷
+    ((codes "60") ∷ (codes "q") ∷ (codes "c") ∷ (codes "delete") ∷ (codes "deleted") ∷ (codes "m-0-0") ∷ (codes "r-0-0-1") ∷ (codes "60") ∷ []) ∷
+    ((codes "90") ∷ (codes "r") ∷ (codes "c") ∷ (codes "arrive") ∷ (codes "new") ∷ (codes "m-2-0") ∷ [] ∷ (codes "o-2-0") ∷ []) ∷
+    ((codes "90") ∷ (codes "p") ∷ (codes "c") ∷ (codes "arrive") ∷ (codes "new") ∷ (codes "m-1-0") ∷ [] ∷ (codes "o-1-0") ∷ []) ∷
+    ((codes "110") ∷ (codes "q") ∷ (codes "c") ∷ (codes "forward") ∷ (codes "out") ∷ (codes "m-0-1") ∷ [] ∷ (codes "r") ∷ []) ∷
+    ((codes "110") ∷ (codes "q") ∷ (codes "c") ∷ (codes "forward") ∷ (codes "out") ∷ (codes "m-0-1") ∷ [] ∷ (codes "p") ∷ []) ∷
+    ((codes "110") ∷ (codes "q") ∷ (codes "c") ∷ (codes "delete") ∷ (codes "deleted") ∷ (codes "m-0-1") ∷ (codes "r-0-1-1") ∷ (codes "109") ∷ []) ∷
+    ((codes "111") ∷ (codes "q") ∷ (codes "c") ∷ (codes "receive") ∷ (codes "wait") ∷ [] ∷ [] ∷ [] ∷ []) ∷
+    ((codes "140") ∷ (codes "r") ∷ (codes "c") ∷ (codes "arrive") ∷ (codes "new") ∷ (codes "m-2-1") ∷ [] ∷ (codes "o-2-1") ∷ []) ∷
+    ((codes "140") ∷ (codes "p") ∷ (codes "c") ∷ (codes "arrive") ∷ (codes "new") ∷ (codes "m-1-1") ∷ [] ∷ (codes "o-1-1") ∷ []) ∷
+    ((codes "final") ∷ (codes "queue") ∷ (codes "message") ∷ (codes "origin") ∷ (codes "place") ∷ (codes "due") ∷ (codes "enqueued") ∷ (codes "receives") ∷ (codes "group") ∷ (codes "md5") ∷ []) ∷
+    ((codes "final") ∷ (codes "p") ∷ (codes "m-1-0") ∷ (codes "o-1-0") ∷ (codes "visible") ∷ [] ∷ (codes "90") ∷ (codes "0") ∷ [] ∷ digest (codes "a") ∷ []) ∷
+    ((codes "final") ∷ (codes "p") ∷ (codes "m-1-1") ∷ (codes "o-1-1") ∷ (codes "visible") ∷ [] ∷ (codes "140") ∷ (codes "0") ∷ [] ∷ digest (codes "b") ∷ []) ∷
+    ((codes "final") ∷ (codes "r") ∷ (codes "m-2-0") ∷ (codes "o-2-0") ∷ (codes "visible") ∷ [] ∷ (codes "90") ∷ (codes "0") ∷ [] ∷ digest (codes "a") ∷ []) ∷
+    ((codes "final") ∷ (codes "r") ∷ (codes "m-2-1") ∷ (codes "o-2-1") ∷ (codes "visible") ∷ [] ∷ (codes "140") ∷ (codes "0") ∷ [] ∷ digest (codes "b") ∷ []) ∷
+    ((codes "transfer") ∷ (codes "from") ∷ (codes "to") ∷ (codes "kind") ∷ (codes "due") ∷ (codes "number") ∷ (codes "message") ∷ (codes "origin") ∷ (codes "md5") ∷ []) ∷
+    ((codes "task") ∷ (codes "name") ∷ (codes "status") ∷ (codes "moved") ∷ []) ∷
+    ((codes "report") ∷ (codes "queue") ∷ (codes "sends") ∷ (codes "repeats") ∷ (codes "receives") ∷ (codes "empties") ∷ (codes "deletes") ∷ (codes "expiries") ∷ (codes "redrives") ∷ (codes "moves") ∷ (codes "arrivals") ∷ (codes "OverLimit") ∷ (codes "MessageNotInflight") ∷ (codes "ReceiptHandleIsInvalid") ∷ (codes "BadTimeout") ∷ (codes "MissingGroup") ∷ (codes "MissingDeduplication") ∷ (codes "BadDelay") ∷ (codes "TaskRunning") ∷ (codes "NoTask") ∷ (codes "depth_max") ∷ (codes "visible") ∷ (codes "in_flight") ∷ (codes "delayed") ∷ (codes "age_sum") ∷ (codes "age_max") ∷ (codes "age_p50") ∷ (codes "age_p95") ∷ (codes "age_p99") ∷ []) ∷
+    ((codes "report") ∷ (codes "q") ∷ (codes "2") ∷ (codes "0") ∷ (codes "2") ∷ (codes "0") ∷ (codes "2") ∷ (codes "0") ∷ (codes "0") ∷ (codes "0") ∷ (codes "0") ∷ (codes "0") ∷ (codes "0") ∷ (codes "0") ∷ (codes "0") ∷ (codes "0") ∷ (codes "0") ∷ (codes "0") ∷ (codes "0") ∷ (codes "0") ∷ (codes "2") ∷ (codes "0") ∷ (codes "0") ∷ (codes "0") ∷ (codes "169") ∷ (codes "109") ∷ (codes "60") ∷ (codes "109") ∷ (codes "109") ∷ []) ∷
+    ((codes "report") ∷ (codes "p") ∷ (codes "0") ∷ (codes "0") ∷ (codes "0") ∷ (codes "0") ∷ (codes "0") ∷ (codes "0") ∷ (codes "0") ∷ (codes "0") ∷ (codes "2") ∷ (codes "0") ∷ (codes "0") ∷ (codes "0") ∷ (codes "0") ∷ (codes "0") ∷ (codes "0") ∷ (codes "0") ∷ (codes "0") ∷ (codes "0") ∷ (codes "2") ∷ (codes "2") ∷ (codes "0") ∷ (codes "0") ∷ (codes "0") ∷ [] ∷ [] ∷ [] ∷ [] ∷ []) ∷
+    ((codes "report") ∷ (codes "r") ∷ (codes "0") ∷ (codes "0") ∷ (codes "0") ∷ (codes "0") ∷ (codes "0") ∷ (codes "0") ∷ (codes "0") ∷ (codes "0") ∷ (codes "2") ∷ (codes "0") ∷ (codes "0") ∷ (codes "0") ∷ (codes "0") ∷ (codes "0") ∷ (codes "0") ∷ (codes "0") ∷ (codes "0") ∷ (codes "0") ∷ (codes "2") ∷ (codes "2") ∷ (codes "0") ∷ (codes "0") ∷ (codes "0") ∷ [] ∷ [] ∷ [] ∷ [] ∷ []) ∷ [])
+unfolding reading_on_literals running_on_literals columns_of
+case_0_forward_to_two_queues = refl
+
 -- version-3/gap_by_quantiles.toml
 case_0_gap_by_quantiles : shown_upto 3 23 [] (codes "# Words of agent 1: 839.344 is between 800 and 1000: 400 + 39.344 / 200 * 600 = 518.03, so 518. 982.301 likewise: 400 +\n# 182.301 / 200 * 600 = 946.90, so 946. So the sends are at 5, 523 and 1469.\nversion = 3\nhorizon = 3000\n[[queue]]\nname = \"q\"\n[[actor]]\nname = \"p\"\nkind = \"producer\"\nqueue = \"q\"\ncount = 3\nstart_ms = 5\ngap = [[0, 100], [500, 100], [800, 400], [1000, 1000]]\nbody = \"a\"\n")
     ≡ ran (((codes "at") ∷ (codes "queue") ∷ (codes "agent") ∷ (codes "call") ∷ (codes "answer") ∷ (codes "message") ∷ (codes "receipt") ∷ (codes "detail") ∷ []) ∷
@@ -938,6 +1128,38 @@ case_0_once_and_each_by_itself : shown_upto 3 31 [] (codes "# One service of all
 unfolding reading_on_literals running_on_literals columns_of
 case_0_once_and_each_by_itself = refl
 
+-- version-3/once_and_each_forwards_to_several_queues.toml
+case_0_once_and_each_forwards_to_several_queues : shown_upto 3 35 [] (codes "# Words of agent 3: 938.159 (time of the service, 100 + 93), 262.075 (the chance of m-0-0), 74.403 and 109.451 (its\n# latencies, 50 + 7 and 50 + 10), 677.823 (the chance of m-0-1), 659.465 and 182.163 (its latencies, 50 + 65 and 50 + 18).\n# The service ends at 10 + 193 + 2 * 5 = 213, and how that of the second message ended is decided at 214.\nversion = 3\nhorizon = 1000\n[[queue]]\nname = \"q\"\n[[queue]]\nname = \"out\"\n[[queue]]\nname = \"far\"\n[[actor]]\nname = \"c\"\nkind = \"consumer\"\nqueue = \"q\"\nstart_ms = 10\nbatch = 2\nwait_s = 20\nservice_min_ms = 100\nservice_max_ms = 199\nfail_permille = 100\nforward = [\"out\", \"far\"]\nlatency_min_ms = 50\nlatency_max_ms = 149\nbatch_service = \"once\"\nservice_each_ms = 5\nbatch_fails = \"each\"\n[[actor]]\nname = \"s\"\nkind = \"script\"\nqueue = \"q\"\ncalls = \"\"\"\nat,call,body,group,id,delay,receipt,max,wait,timeout,task\n0,send,a,,,,,,,,\n1,send,b,,,,,,,,\n\"\"\"\n")
+    ≡ ran (((codes "at") ∷ (codes "queue") ∷ (codes "agent") ∷ (codes "call") ∷ (codes "answer") ∷ (codes "message") ∷ (codes "receipt") ∷ (codes "detail") ∷ []) ∷
+    ((codes "0") ∷ (codes "q") ∷ (codes "s") ∷ (codes "send") ∷ (codes "new") ∷ (codes "m-0-0") ∷ [] ∷ digest (codes "a") ∷ []) ∷
+    ((codes "1") ∷ (codes "q") ∷ (codes "s") ∷ (codes "send") ∷ (codes "new") ∷ (codes "m-0-1") ∷ [] ∷ digest (codes "b") ∷ []) ∷
+    ((codes "10") ∷ (codes "q") ∷ (codes "c") ∷ (codes "receive") ∷ (codes "ok") ∷ (codes "m-0-0") ∷ (codes "r-0-0-1") ∷ (codes "o-0-0") ∷ []) ∷
+    ((codes "10") ∷ (codes "q") ∷ (codes "c") ∷ (codes "receive") ∷ (codes "ok") ∷ (codes "m-0-1") ∷ (codes "r-0-1-1") ∷ (codes "o-0-1") ∷ []) ∷
+    ((codes "213") ∷ (codes "q") ∷ (codes "c") ∷ (codes "forward") ∷ (codes "out") ∷ (codes "m-0-0") ∷ [] ∷ (codes "out") ∷ []) ∷
+    ((codes "213") ∷ (codes "q") ∷ (codes "c") ∷ (codes "forward") ∷ (codes "out") ∷ (codes "m-0-0") ∷ [] ∷ (codes "far") ∷ []) ∷
+    ((codes "213") ∷ (codes "q") ∷ (codes "c") ∷ (codes "delete") ∷ (codes "deleted") ∷ (codes "m-0-0") ∷ (codes "r-0-0-1") ∷ (codes "213") ∷ []) ∷
+    ((codes "214") ∷ (codes "q") ∷ (codes "c") ∷ (codes "forward") ∷ (codes "out") ∷ (codes "m-0-1") ∷ [] ∷ (codes "out") ∷ []) ∷
+    ((codes "214") ∷ (codes "q") ∷ (codes "c") ∷ (codes "forward") ∷ (codes "out") ∷ (codes "m-0-1") ∷ [] ∷ (codes "far") ∷ []) ∷
+    ((codes "214") ∷ (codes "q") ∷ (codes "c") ∷ (codes "delete") ∷ (codes "deleted") ∷ (codes "m-0-1") ∷ (codes "r-0-1-1") ∷ (codes "213") ∷ []) ∷
+    ((codes "215") ∷ (codes "q") ∷ (codes "c") ∷ (codes "receive") ∷ (codes "wait") ∷ [] ∷ [] ∷ [] ∷ []) ∷
+    ((codes "270") ∷ (codes "out") ∷ (codes "c") ∷ (codes "arrive") ∷ (codes "new") ∷ (codes "m-1-0") ∷ [] ∷ (codes "o-1-0") ∷ []) ∷
+    ((codes "273") ∷ (codes "far") ∷ (codes "c") ∷ (codes "arrive") ∷ (codes "new") ∷ (codes "m-2-0") ∷ [] ∷ (codes "o-2-0") ∷ []) ∷
+    ((codes "282") ∷ (codes "far") ∷ (codes "c") ∷ (codes "arrive") ∷ (codes "new") ∷ (codes "m-2-1") ∷ [] ∷ (codes "o-2-1") ∷ []) ∷
+    ((codes "329") ∷ (codes "out") ∷ (codes "c") ∷ (codes "arrive") ∷ (codes "new") ∷ (codes "m-1-1") ∷ [] ∷ (codes "o-1-1") ∷ []) ∷
+    ((codes "final") ∷ (codes "queue") ∷ (codes "message") ∷ (codes "origin") ∷ (codes "place") ∷ (codes "due") ∷ (codes "enqueued") ∷ (codes "receives") ∷ (codes "group") ∷ (codes "md5") ∷ []) ∷
+    ((codes "final") ∷ (codes "out") ∷ (codes "m-1-0") ∷ (codes "o-1-0") ∷ (codes "visible") ∷ [] ∷ (codes "270") ∷ (codes "0") ∷ [] ∷ digest (codes "a") ∷ []) ∷
+    ((codes "final") ∷ (codes "out") ∷ (codes "m-1-1") ∷ (codes "o-1-1") ∷ (codes "visible") ∷ [] ∷ (codes "329") ∷ (codes "0") ∷ [] ∷ digest (codes "b") ∷ []) ∷
+    ((codes "final") ∷ (codes "far") ∷ (codes "m-2-0") ∷ (codes "o-2-0") ∷ (codes "visible") ∷ [] ∷ (codes "273") ∷ (codes "0") ∷ [] ∷ digest (codes "a") ∷ []) ∷
+    ((codes "final") ∷ (codes "far") ∷ (codes "m-2-1") ∷ (codes "o-2-1") ∷ (codes "visible") ∷ [] ∷ (codes "282") ∷ (codes "0") ∷ [] ∷ digest (codes "b") ∷ []) ∷
+    ((codes "transfer") ∷ (codes "from") ∷ (codes "to") ∷ (codes "kind") ∷ (codes "due") ∷ (codes "number") ∷ (codes "message") ∷ (codes "origin") ∷ (codes "md5") ∷ []) ∷
+    ((codes "task") ∷ (codes "name") ∷ (codes "status") ∷ (codes "moved") ∷ []) ∷
+    ((codes "report") ∷ (codes "queue") ∷ (codes "sends") ∷ (codes "repeats") ∷ (codes "receives") ∷ (codes "empties") ∷ (codes "deletes") ∷ (codes "expiries") ∷ (codes "redrives") ∷ (codes "moves") ∷ (codes "arrivals") ∷ (codes "OverLimit") ∷ (codes "MessageNotInflight") ∷ (codes "ReceiptHandleIsInvalid") ∷ (codes "BadTimeout") ∷ (codes "MissingGroup") ∷ (codes "MissingDeduplication") ∷ (codes "BadDelay") ∷ (codes "TaskRunning") ∷ (codes "NoTask") ∷ (codes "depth_max") ∷ (codes "visible") ∷ (codes "in_flight") ∷ (codes "delayed") ∷ (codes "age_sum") ∷ (codes "age_max") ∷ (codes "age_p50") ∷ (codes "age_p95") ∷ (codes "age_p99") ∷ []) ∷
+    ((codes "report") ∷ (codes "q") ∷ (codes "2") ∷ (codes "0") ∷ (codes "2") ∷ (codes "0") ∷ (codes "2") ∷ (codes "0") ∷ (codes "0") ∷ (codes "0") ∷ (codes "0") ∷ (codes "0") ∷ (codes "0") ∷ (codes "0") ∷ (codes "0") ∷ (codes "0") ∷ (codes "0") ∷ (codes "0") ∷ (codes "0") ∷ (codes "0") ∷ (codes "2") ∷ (codes "0") ∷ (codes "0") ∷ (codes "0") ∷ (codes "426") ∷ (codes "213") ∷ (codes "213") ∷ (codes "213") ∷ (codes "213") ∷ []) ∷
+    ((codes "report") ∷ (codes "out") ∷ (codes "0") ∷ (codes "0") ∷ (codes "0") ∷ (codes "0") ∷ (codes "0") ∷ (codes "0") ∷ (codes "0") ∷ (codes "0") ∷ (codes "2") ∷ (codes "0") ∷ (codes "0") ∷ (codes "0") ∷ (codes "0") ∷ (codes "0") ∷ (codes "0") ∷ (codes "0") ∷ (codes "0") ∷ (codes "0") ∷ (codes "2") ∷ (codes "2") ∷ (codes "0") ∷ (codes "0") ∷ (codes "0") ∷ [] ∷ [] ∷ [] ∷ [] ∷ []) ∷
+    ((codes "report") ∷ (codes "far") ∷ (codes "0") ∷ (codes "0") ∷ (codes "0") ∷ (codes "0") ∷ (codes "0") ∷ (codes "0") ∷ (codes "0") ∷ (codes "0") ∷ (codes "2") ∷ (codes "0") ∷ (codes "0") ∷ (codes "0") ∷ (codes "0") ∷ (codes "0") ∷ (codes "0") ∷ (codes "0") ∷ (codes "0") ∷ (codes "0") ∷ (codes "2") ∷ (codes "2") ∷ (codes "0") ∷ (codes "0") ∷ (codes "0") ∷ [] ∷ [] ∷ [] ∷ [] ∷ []) ∷ [])
+unfolding reading_on_literals running_on_literals columns_of
+case_0_once_and_each_forwards_to_several_queues = refl
+
 -- version-3/once_draws_a_chance_for_each.toml
 case_0_once_draws_a_chance_for_each : shown_upto 3 27 [] (codes "# Words of agent 2: 717.678 (the time of the service, 100 + 71), 447.024 (the chance of m-0-0, not below 100) and 12.444\n# (that of m-0-1, which fails). No time is drawn between the two. The service ends at 10 + 171 + 2 * 5 = 191.\nversion = 3\nhorizon = 1000\n[[queue]]\nname = \"q\"\n[[queue]]\nname = \"p\"\n[[actor]]\nname = \"c\"\nkind = \"consumer\"\nqueue = \"q\"\nstart_ms = 10\nbatch = 2\nwait_s = 20\nservice_min_ms = 100\nservice_max_ms = 199\nbatch_service = \"once\"\nservice_each_ms = 5\nfail_permille = 100\n[[actor]]\nname = \"s\"\nkind = \"script\"\nqueue = \"q\"\ncalls = \"\"\"\nat,call,body,group,id,delay,receipt,max,wait,timeout,task\n0,send,a,,,,,,,,\n1,send,b,,,,,,,,\n\"\"\"\n")
     ≡ ran (((codes "at") ∷ (codes "queue") ∷ (codes "agent") ∷ (codes "call") ∷ (codes "answer") ∷ (codes "message") ∷ (codes "receipt") ∷ (codes "detail") ∷ []) ∷
@@ -982,6 +1204,38 @@ case_0_once_forwards_a_whole_batch : shown_upto 3 31 [] (codes "# Words of agent
     ((codes "report") ∷ (codes "out") ∷ (codes "0") ∷ (codes "0") ∷ (codes "0") ∷ (codes "0") ∷ (codes "0") ∷ (codes "0") ∷ (codes "0") ∷ (codes "0") ∷ (codes "2") ∷ (codes "0") ∷ (codes "0") ∷ (codes "0") ∷ (codes "0") ∷ (codes "0") ∷ (codes "0") ∷ (codes "0") ∷ (codes "0") ∷ (codes "0") ∷ (codes "2") ∷ (codes "2") ∷ (codes "0") ∷ (codes "0") ∷ (codes "0") ∷ [] ∷ [] ∷ [] ∷ [] ∷ []) ∷ [])
 unfolding reading_on_literals running_on_literals columns_of
 case_0_once_forwards_a_whole_batch = refl
+
+-- version-3/once_forwards_to_several_queues.toml
+case_0_once_forwards_to_several_queues : shown_upto 3 35 [] (codes "# Words of agent 3: 938.159 (time of the service, 100 + 93), 262.075 (its chance), 74.403 and 109.451 (latencies of m-0-0,\n# 50 + 7 and 50 + 10), 677.823 and 659.465 (those of m-0-1, 50 + 67 and 50 + 65). The service ends at\n# 10 + 193 + 2 * 5 = 213. The second message is settled at 214, without a chance of its own.\nversion = 3\nhorizon = 1000\n[[queue]]\nname = \"q\"\n[[queue]]\nname = \"out\"\n[[queue]]\nname = \"far\"\n[[actor]]\nname = \"c\"\nkind = \"consumer\"\nqueue = \"q\"\nstart_ms = 10\nbatch = 2\nwait_s = 20\nservice_min_ms = 100\nservice_max_ms = 199\nfail_permille = 100\nforward = [\"out\", \"far\"]\nlatency_min_ms = 50\nlatency_max_ms = 149\nbatch_service = \"once\"\nservice_each_ms = 5\nbatch_fails = \"whole\"\n[[actor]]\nname = \"s\"\nkind = \"script\"\nqueue = \"q\"\ncalls = \"\"\"\nat,call,body,group,id,delay,receipt,max,wait,timeout,task\n0,send,a,,,,,,,,\n1,send,b,,,,,,,,\n\"\"\"\n")
+    ≡ ran (((codes "at") ∷ (codes "queue") ∷ (codes "agent") ∷ (codes "call") ∷ (codes "answer") ∷ (codes "message") ∷ (codes "receipt") ∷ (codes "detail") ∷ []) ∷
+    ((codes "0") ∷ (codes "q") ∷ (codes "s") ∷ (codes "send") ∷ (codes "new") ∷ (codes "m-0-0") ∷ [] ∷ digest (codes "a") ∷ []) ∷
+    ((codes "1") ∷ (codes "q") ∷ (codes "s") ∷ (codes "send") ∷ (codes "new") ∷ (codes "m-0-1") ∷ [] ∷ digest (codes "b") ∷ []) ∷
+    ((codes "10") ∷ (codes "q") ∷ (codes "c") ∷ (codes "receive") ∷ (codes "ok") ∷ (codes "m-0-0") ∷ (codes "r-0-0-1") ∷ (codes "o-0-0") ∷ []) ∷
+    ((codes "10") ∷ (codes "q") ∷ (codes "c") ∷ (codes "receive") ∷ (codes "ok") ∷ (codes "m-0-1") ∷ (codes "r-0-1-1") ∷ (codes "o-0-1") ∷ []) ∷
+    ((codes "213") ∷ (codes "q") ∷ (codes "c") ∷ (codes "forward") ∷ (codes "out") ∷ (codes "m-0-0") ∷ [] ∷ (codes "out") ∷ []) ∷
+    ((codes "213") ∷ (codes "q") ∷ (codes "c") ∷ (codes "forward") ∷ (codes "out") ∷ (codes "m-0-0") ∷ [] ∷ (codes "far") ∷ []) ∷
+    ((codes "213") ∷ (codes "q") ∷ (codes "c") ∷ (codes "delete") ∷ (codes "deleted") ∷ (codes "m-0-0") ∷ (codes "r-0-0-1") ∷ (codes "213") ∷ []) ∷
+    ((codes "214") ∷ (codes "q") ∷ (codes "c") ∷ (codes "forward") ∷ (codes "out") ∷ (codes "m-0-1") ∷ [] ∷ (codes "out") ∷ []) ∷
+    ((codes "214") ∷ (codes "q") ∷ (codes "c") ∷ (codes "forward") ∷ (codes "out") ∷ (codes "m-0-1") ∷ [] ∷ (codes "far") ∷ []) ∷
+    ((codes "214") ∷ (codes "q") ∷ (codes "c") ∷ (codes "delete") ∷ (codes "deleted") ∷ (codes "m-0-1") ∷ (codes "r-0-1-1") ∷ (codes "213") ∷ []) ∷
+    ((codes "215") ∷ (codes "q") ∷ (codes "c") ∷ (codes "receive") ∷ (codes "wait") ∷ [] ∷ [] ∷ [] ∷ []) ∷
+    ((codes "270") ∷ (codes "out") ∷ (codes "c") ∷ (codes "arrive") ∷ (codes "new") ∷ (codes "m-1-0") ∷ [] ∷ (codes "o-1-0") ∷ []) ∷
+    ((codes "273") ∷ (codes "far") ∷ (codes "c") ∷ (codes "arrive") ∷ (codes "new") ∷ (codes "m-2-0") ∷ [] ∷ (codes "o-2-0") ∷ []) ∷
+    ((codes "329") ∷ (codes "far") ∷ (codes "c") ∷ (codes "arrive") ∷ (codes "new") ∷ (codes "m-2-1") ∷ [] ∷ (codes "o-2-1") ∷ []) ∷
+    ((codes "331") ∷ (codes "out") ∷ (codes "c") ∷ (codes "arrive") ∷ (codes "new") ∷ (codes "m-1-1") ∷ [] ∷ (codes "o-1-1") ∷ []) ∷
+    ((codes "final") ∷ (codes "queue") ∷ (codes "message") ∷ (codes "origin") ∷ (codes "place") ∷ (codes "due") ∷ (codes "enqueued") ∷ (codes "receives") ∷ (codes "group") ∷ (codes "md5") ∷ []) ∷
+    ((codes "final") ∷ (codes "out") ∷ (codes "m-1-0") ∷ (codes "o-1-0") ∷ (codes "visible") ∷ [] ∷ (codes "270") ∷ (codes "0") ∷ [] ∷ digest (codes "a") ∷ []) ∷
+    ((codes "final") ∷ (codes "out") ∷ (codes "m-1-1") ∷ (codes "o-1-1") ∷ (codes "visible") ∷ [] ∷ (codes "331") ∷ (codes "0") ∷ [] ∷ digest (codes "b") ∷ []) ∷
+    ((codes "final") ∷ (codes "far") ∷ (codes "m-2-0") ∷ (codes "o-2-0") ∷ (codes "visible") ∷ [] ∷ (codes "273") ∷ (codes "0") ∷ [] ∷ digest (codes "a") ∷ []) ∷
+    ((codes "final") ∷ (codes "far") ∷ (codes "m-2-1") ∷ (codes "o-2-1") ∷ (codes "visible") ∷ [] ∷ (codes "329") ∷ (codes "0") ∷ [] ∷ digest (codes "b") ∷ []) ∷
+    ((codes "transfer") ∷ (codes "from") ∷ (codes "to") ∷ (codes "kind") ∷ (codes "due") ∷ (codes "number") ∷ (codes "message") ∷ (codes "origin") ∷ (codes "md5") ∷ []) ∷
+    ((codes "task") ∷ (codes "name") ∷ (codes "status") ∷ (codes "moved") ∷ []) ∷
+    ((codes "report") ∷ (codes "queue") ∷ (codes "sends") ∷ (codes "repeats") ∷ (codes "receives") ∷ (codes "empties") ∷ (codes "deletes") ∷ (codes "expiries") ∷ (codes "redrives") ∷ (codes "moves") ∷ (codes "arrivals") ∷ (codes "OverLimit") ∷ (codes "MessageNotInflight") ∷ (codes "ReceiptHandleIsInvalid") ∷ (codes "BadTimeout") ∷ (codes "MissingGroup") ∷ (codes "MissingDeduplication") ∷ (codes "BadDelay") ∷ (codes "TaskRunning") ∷ (codes "NoTask") ∷ (codes "depth_max") ∷ (codes "visible") ∷ (codes "in_flight") ∷ (codes "delayed") ∷ (codes "age_sum") ∷ (codes "age_max") ∷ (codes "age_p50") ∷ (codes "age_p95") ∷ (codes "age_p99") ∷ []) ∷
+    ((codes "report") ∷ (codes "q") ∷ (codes "2") ∷ (codes "0") ∷ (codes "2") ∷ (codes "0") ∷ (codes "2") ∷ (codes "0") ∷ (codes "0") ∷ (codes "0") ∷ (codes "0") ∷ (codes "0") ∷ (codes "0") ∷ (codes "0") ∷ (codes "0") ∷ (codes "0") ∷ (codes "0") ∷ (codes "0") ∷ (codes "0") ∷ (codes "0") ∷ (codes "2") ∷ (codes "0") ∷ (codes "0") ∷ (codes "0") ∷ (codes "426") ∷ (codes "213") ∷ (codes "213") ∷ (codes "213") ∷ (codes "213") ∷ []) ∷
+    ((codes "report") ∷ (codes "out") ∷ (codes "0") ∷ (codes "0") ∷ (codes "0") ∷ (codes "0") ∷ (codes "0") ∷ (codes "0") ∷ (codes "0") ∷ (codes "0") ∷ (codes "2") ∷ (codes "0") ∷ (codes "0") ∷ (codes "0") ∷ (codes "0") ∷ (codes "0") ∷ (codes "0") ∷ (codes "0") ∷ (codes "0") ∷ (codes "0") ∷ (codes "2") ∷ (codes "2") ∷ (codes "0") ∷ (codes "0") ∷ (codes "0") ∷ [] ∷ [] ∷ [] ∷ [] ∷ []) ∷
+    ((codes "report") ∷ (codes "far") ∷ (codes "0") ∷ (codes "0") ∷ (codes "0") ∷ (codes "0") ∷ (codes "0") ∷ (codes "0") ∷ (codes "0") ∷ (codes "0") ∷ (codes "2") ∷ (codes "0") ∷ (codes "0") ∷ (codes "0") ∷ (codes "0") ∷ (codes "0") ∷ (codes "0") ∷ (codes "0") ∷ (codes "0") ∷ (codes "0") ∷ (codes "2") ∷ (codes "2") ∷ (codes "0") ∷ (codes "0") ∷ (codes "0") ∷ [] ∷ [] ∷ [] ∷ [] ∷ []) ∷ [])
+unfolding reading_on_literals running_on_literals columns_of
+case_0_once_forwards_to_several_queues = refl
 
 -- version-3/once_grows_with_the_batch.toml
 case_0_once_grows_with_the_batch : shown_upto 3 31 [] (codes "# The waiting poll gets one message: its service takes 100 + 50 ms. The next receive gives two: 100 + 2 * 50 ms.\nversion = 3\nhorizon = 400\n[[queue]]\nname = \"q\"\n[[actor]]\nname = \"c\"\nkind = \"consumer\"\nqueue = \"q\"\nbatch = 3\nwait_s = 20\nservice_min_ms = 100\nservice_max_ms = 100\nbatch_service = \"once\"\nservice_each_ms = 50\n[[actor]]\nname = \"s\"\nkind = \"script\"\nqueue = \"q\"\ncalls = \"\"\"\nat,call,body,group,id,delay,receipt,max,wait,timeout,task\n1,send,a,,,,,,,,\n2,send,b,,,,,,,,\n3,send,c,,,,,,,,\n\"\"\"\n")
@@ -1244,6 +1498,65 @@ case_0_outage_with_dead_letters : shown_upto 3 41 [] (codes "# During the outage
 unfolding reading_on_literals running_on_literals columns_of
 case_0_outage_with_dead_letters = refl
 
+-- version-3/outages_decided_at_the_begin.toml
+case_0_outages_decided_at_the_begin : shown_upto 3 33 [] (codes "# With fail_service_ms the outage is that in which a service begins. The first begins at 10 and fails after 20 ms. Those\n# that begin at 30 and at 80, in the second outage, end well. The last begins at 130, in none, and fails.\nversion = 3\nhorizon = 1000\n[[queue]]\nname = \"q\"\n[[actor]]\nname = \"c\"\nkind = \"consumer\"\nqueue = \"q\"\nstart_ms = 10\nbatch = 4\nwait_s = 20\nservice_min_ms = 50\nservice_max_ms = 50\nfail_service_ms = 20\nfail_permille = 1000\nfails_between_ms = [[0, 30], [30, 130]]\nfails_permille = [1000, 0]\n[[actor]]\nname = \"s\"\nkind = \"script\"\nqueue = \"q\"\ncalls = \"\"\"\nat,call,body,group,id,delay,receipt,max,wait,timeout,task\n0,send,a,,,,,,,,\n1,send,b,,,,,,,,\n2,send,c,,,,,,,,\n3,send,a,,,,,,,,\n\"\"\"\n")
+    ≡ ran (((codes "at") ∷ (codes "queue") ∷ (codes "agent") ∷ (codes "call") ∷ (codes "answer") ∷ (codes "message") ∷ (codes "receipt") ∷ (codes "detail") ∷ []) ∷
+    ((codes "0") ∷ (codes "q") ∷ (codes "s") ∷ (codes "send") ∷ (codes "new") ∷ (codes "m-0-0") ∷ [] ∷ digest (codes "a") ∷ []) ∷
+    ((codes "1") ∷ (codes "q") ∷ (codes "s") ∷ (codes "send") ∷ (codes "new") ∷ (codes "m-0-1") ∷ [] ∷ digest (codes "b") ∷ []) ∷
+    ((codes "2") ∷ (codes "q") ∷ (codes "s") ∷ (codes "send") ∷ (codes "new") ∷ (codes "m-0-2") ∷ [] ∷ digest (codes "c") ∷ []) ∷
+    ((codes "3") ∷ (codes "q") ∷ (codes "s") ∷ (codes "send") ∷ (codes "new") ∷ (codes "m-0-3") ∷ [] ∷ digest (codes "a") ∷ []) ∷
+    ((codes "10") ∷ (codes "q") ∷ (codes "c") ∷ (codes "receive") ∷ (codes "ok") ∷ (codes "m-0-0") ∷ (codes "r-0-0-1") ∷ (codes "o-0-0") ∷ []) ∷
+    ((codes "10") ∷ (codes "q") ∷ (codes "c") ∷ (codes "receive") ∷ (codes "ok") ∷ (codes "m-0-1") ∷ (codes "r-0-1-1") ∷ (codes "o-0-1") ∷ []) ∷
+    ((codes "10") ∷ (codes "q") ∷ (codes "c") ∷ (codes "receive") ∷ (codes "ok") ∷ (codes "m-0-2") ∷ (codes "r-0-2-1") ∷ (codes "o-0-2") ∷ []) ∷
+    ((codes "10") ∷ (codes "q") ∷ (codes "c") ∷ (codes "receive") ∷ (codes "ok") ∷ (codes "m-0-3") ∷ (codes "r-0-3-1") ∷ (codes "o-0-3") ∷ []) ∷
+    ((codes "30") ∷ (codes "q") ∷ (codes "c") ∷ (codes "fail") ∷ (codes "ok") ∷ (codes "m-0-0") ∷ (codes "r-0-0-1") ∷ [] ∷ []) ∷
+    ((codes "80") ∷ (codes "q") ∷ (codes "c") ∷ (codes "delete") ∷ (codes "deleted") ∷ (codes "m-0-1") ∷ (codes "r-0-1-1") ∷ (codes "79") ∷ []) ∷
+    ((codes "130") ∷ (codes "q") ∷ (codes "c") ∷ (codes "delete") ∷ (codes "deleted") ∷ (codes "m-0-2") ∷ (codes "r-0-2-1") ∷ (codes "128") ∷ []) ∷
+    ((codes "150") ∷ (codes "q") ∷ (codes "c") ∷ (codes "fail") ∷ (codes "ok") ∷ (codes "m-0-3") ∷ (codes "r-0-3-1") ∷ [] ∷ []) ∷
+    ((codes "151") ∷ (codes "q") ∷ (codes "c") ∷ (codes "receive") ∷ (codes "wait") ∷ [] ∷ [] ∷ [] ∷ []) ∷
+    ((codes "final") ∷ (codes "queue") ∷ (codes "message") ∷ (codes "origin") ∷ (codes "place") ∷ (codes "due") ∷ (codes "enqueued") ∷ (codes "receives") ∷ (codes "group") ∷ (codes "md5") ∷ []) ∷
+    ((codes "final") ∷ (codes "q") ∷ (codes "m-0-0") ∷ (codes "o-0-0") ∷ (codes "inflight") ∷ (codes "30010") ∷ (codes "0") ∷ (codes "1") ∷ [] ∷ digest (codes "a") ∷ []) ∷
+    ((codes "final") ∷ (codes "q") ∷ (codes "m-0-3") ∷ (codes "o-0-3") ∷ (codes "inflight") ∷ (codes "30010") ∷ (codes "3") ∷ (codes "1") ∷ [] ∷ digest (codes "a") ∷ []) ∷
+    ((codes "transfer") ∷ (codes "from") ∷ (codes "to") ∷ (codes "kind") ∷ (codes "due") ∷ (codes "number") ∷ (codes "message") ∷ (codes "origin") ∷ (codes "md5") ∷ []) ∷
+    ((codes "task") ∷ (codes "name") ∷ (codes "status") ∷ (codes "moved") ∷ []) ∷
+    ((codes "report") ∷ (codes "queue") ∷ (codes "sends") ∷ (codes "repeats") ∷ (codes "receives") ∷ (codes "empties") ∷ (codes "deletes") ∷ (codes "expiries") ∷ (codes "redrives") ∷ (codes "moves") ∷ (codes "arrivals") ∷ (codes "OverLimit") ∷ (codes "MessageNotInflight") ∷ (codes "ReceiptHandleIsInvalid") ∷ (codes "BadTimeout") ∷ (codes "MissingGroup") ∷ (codes "MissingDeduplication") ∷ (codes "BadDelay") ∷ (codes "TaskRunning") ∷ (codes "NoTask") ∷ (codes "depth_max") ∷ (codes "visible") ∷ (codes "in_flight") ∷ (codes "delayed") ∷ (codes "age_sum") ∷ (codes "age_max") ∷ (codes "age_p50") ∷ (codes "age_p95") ∷ (codes "age_p99") ∷ []) ∷
+    ((codes "report") ∷ (codes "q") ∷ (codes "4") ∷ (codes "0") ∷ (codes "4") ∷ (codes "0") ∷ (codes "2") ∷ (codes "0") ∷ (codes "0") ∷ (codes "0") ∷ (codes "0") ∷ (codes "0") ∷ (codes "0") ∷ (codes "0") ∷ (codes "0") ∷ (codes "0") ∷ (codes "0") ∷ (codes "0") ∷ (codes "0") ∷ (codes "0") ∷ (codes "4") ∷ (codes "0") ∷ (codes "2") ∷ (codes "0") ∷ (codes "207") ∷ (codes "128") ∷ (codes "79") ∷ (codes "128") ∷ (codes "128") ∷ []) ∷ [])
+unfolding reading_on_literals running_on_literals columns_of
+case_0_outages_decided_at_the_begin = refl
+
+-- version-3/outages_of_different_chances.toml
+case_0_outages_of_different_chances : shown_upto 3 39 [] (codes "# Services end at 100, 150, 200, 250, 300 and 350. In the first outage none fails, in the second each, and in the fourth\n# none. The third is empty, so no service has its chance. At 250 and 350, out of all of them, each fails.\nversion = 3\nhorizon = 1000\n[[queue]]\nname = \"q\"\n[[actor]]\nname = \"c\"\nkind = \"consumer\"\nqueue = \"q\"\nstart_ms = 50\nbatch = 6\nwait_s = 20\nservice_min_ms = 50\nservice_max_ms = 50\nfail_permille = 1000\nfails_between_ms = [[100, 200], [200, 250], [300, 300], [300, 350]]\nfails_permille = [0, 1000, 1000, 0]\n[[actor]]\nname = \"s\"\nkind = \"script\"\nqueue = \"q\"\ncalls = \"\"\"\nat,call,body,group,id,delay,receipt,max,wait,timeout,task\n0,send,a,,,,,,,,\n1,send,b,,,,,,,,\n2,send,c,,,,,,,,\n3,send,a,,,,,,,,\n4,send,b,,,,,,,,\n5,send,c,,,,,,,,\n\"\"\"\n")
+    ≡ ran (((codes "at") ∷ (codes "queue") ∷ (codes "agent") ∷ (codes "call") ∷ (codes "answer") ∷ (codes "message") ∷ (codes "receipt") ∷ (codes "detail") ∷ []) ∷
+    ((codes "0") ∷ (codes "q") ∷ (codes "s") ∷ (codes "send") ∷ (codes "new") ∷ (codes "m-0-0") ∷ [] ∷ digest (codes "a") ∷ []) ∷
+    ((codes "1") ∷ (codes "q") ∷ (codes "s") ∷ (codes "send") ∷ (codes "new") ∷ (codes "m-0-1") ∷ [] ∷ digest (codes "b") ∷ []) ∷
+    ((codes "2") ∷ (codes "q") ∷ (codes "s") ∷ (codes "send") ∷ (codes "new") ∷ (codes "m-0-2") ∷ [] ∷ digest (codes "c") ∷ []) ∷
+    ((codes "3") ∷ (codes "q") ∷ (codes "s") ∷ (codes "send") ∷ (codes "new") ∷ (codes "m-0-3") ∷ [] ∷ digest (codes "a") ∷ []) ∷
+    ((codes "4") ∷ (codes "q") ∷ (codes "s") ∷ (codes "send") ∷ (codes "new") ∷ (codes "m-0-4") ∷ [] ∷ digest (codes "b") ∷ []) ∷
+    ((codes "5") ∷ (codes "q") ∷ (codes "s") ∷ (codes "send") ∷ (codes "new") ∷ (codes "m-0-5") ∷ [] ∷ digest (codes "c") ∷ []) ∷
+    ((codes "50") ∷ (codes "q") ∷ (codes "c") ∷ (codes "receive") ∷ (codes "ok") ∷ (codes "m-0-0") ∷ (codes "r-0-0-1") ∷ (codes "o-0-0") ∷ []) ∷
+    ((codes "50") ∷ (codes "q") ∷ (codes "c") ∷ (codes "receive") ∷ (codes "ok") ∷ (codes "m-0-1") ∷ (codes "r-0-1-1") ∷ (codes "o-0-1") ∷ []) ∷
+    ((codes "50") ∷ (codes "q") ∷ (codes "c") ∷ (codes "receive") ∷ (codes "ok") ∷ (codes "m-0-2") ∷ (codes "r-0-2-1") ∷ (codes "o-0-2") ∷ []) ∷
+    ((codes "50") ∷ (codes "q") ∷ (codes "c") ∷ (codes "receive") ∷ (codes "ok") ∷ (codes "m-0-3") ∷ (codes "r-0-3-1") ∷ (codes "o-0-3") ∷ []) ∷
+    ((codes "50") ∷ (codes "q") ∷ (codes "c") ∷ (codes "receive") ∷ (codes "ok") ∷ (codes "m-0-4") ∷ (codes "r-0-4-1") ∷ (codes "o-0-4") ∷ []) ∷
+    ((codes "50") ∷ (codes "q") ∷ (codes "c") ∷ (codes "receive") ∷ (codes "ok") ∷ (codes "m-0-5") ∷ (codes "r-0-5-1") ∷ (codes "o-0-5") ∷ []) ∷
+    ((codes "100") ∷ (codes "q") ∷ (codes "c") ∷ (codes "delete") ∷ (codes "deleted") ∷ (codes "m-0-0") ∷ (codes "r-0-0-1") ∷ (codes "100") ∷ []) ∷
+    ((codes "150") ∷ (codes "q") ∷ (codes "c") ∷ (codes "delete") ∷ (codes "deleted") ∷ (codes "m-0-1") ∷ (codes "r-0-1-1") ∷ (codes "149") ∷ []) ∷
+    ((codes "200") ∷ (codes "q") ∷ (codes "c") ∷ (codes "fail") ∷ (codes "ok") ∷ (codes "m-0-2") ∷ (codes "r-0-2-1") ∷ [] ∷ []) ∷
+    ((codes "250") ∷ (codes "q") ∷ (codes "c") ∷ (codes "fail") ∷ (codes "ok") ∷ (codes "m-0-3") ∷ (codes "r-0-3-1") ∷ [] ∷ []) ∷
+    ((codes "300") ∷ (codes "q") ∷ (codes "c") ∷ (codes "delete") ∷ (codes "deleted") ∷ (codes "m-0-4") ∷ (codes "r-0-4-1") ∷ (codes "296") ∷ []) ∷
+    ((codes "350") ∷ (codes "q") ∷ (codes "c") ∷ (codes "fail") ∷ (codes "ok") ∷ (codes "m-0-5") ∷ (codes "r-0-5-1") ∷ [] ∷ []) ∷
+    ((codes "351") ∷ (codes "q") ∷ (codes "c") ∷ (codes "receive") ∷ (codes "wait") ∷ [] ∷ [] ∷ [] ∷ []) ∷
+    ((codes "final") ∷ (codes "queue") ∷ (codes "message") ∷ (codes "origin") ∷ (codes "place") ∷ (codes "due") ∷ (codes "enqueued") ∷ (codes "receives") ∷ (codes "group") ∷ (codes "md5") ∷ []) ∷
+    ((codes "final") ∷ (codes "q") ∷ (codes "m-0-2") ∷ (codes "o-0-2") ∷ (codes "inflight") ∷ (codes "30050") ∷ (codes "2") ∷ (codes "1") ∷ [] ∷ digest (codes "c") ∷ []) ∷
+    ((codes "final") ∷ (codes "q") ∷ (codes "m-0-3") ∷ (codes "o-0-3") ∷ (codes "inflight") ∷ (codes "30050") ∷ (codes "3") ∷ (codes "1") ∷ [] ∷ digest (codes "a") ∷ []) ∷
+    ((codes "final") ∷ (codes "q") ∷ (codes "m-0-5") ∷ (codes "o-0-5") ∷ (codes "inflight") ∷ (codes "30050") ∷ (codes "5") ∷ (codes "1") ∷ [] ∷ digest (codes "c") ∷ []) ∷
+    ((codes "transfer") ∷ (codes "from") ∷ (codes "to") ∷ (codes "kind") ∷ (codes "due") ∷ (codes "number") ∷ (codes "message") ∷ (codes "origin") ∷ (codes "md5") ∷ []) ∷
+    ((codes "task") ∷ (codes "name") ∷ (codes "status") ∷ (codes "moved") ∷ []) ∷
+    ((codes "report") ∷ (codes "queue") ∷ (codes "sends") ∷ (codes "repeats") ∷ (codes "receives") ∷ (codes "empties") ∷ (codes "deletes") ∷ (codes "expiries") ∷ (codes "redrives") ∷ (codes "moves") ∷ (codes "arrivals") ∷ (codes "OverLimit") ∷ (codes "MessageNotInflight") ∷ (codes "ReceiptHandleIsInvalid") ∷ (codes "BadTimeout") ∷ (codes "MissingGroup") ∷ (codes "MissingDeduplication") ∷ (codes "BadDelay") ∷ (codes "TaskRunning") ∷ (codes "NoTask") ∷ (codes "depth_max") ∷ (codes "visible") ∷ (codes "in_flight") ∷ (codes "delayed") ∷ (codes "age_sum") ∷ (codes "age_max") ∷ (codes "age_p50") ∷ (codes "age_p95") ∷ (codes "age_p99") ∷ []) ∷
+    ((codes "report") ∷ (codes "q") ∷ (codes "6") ∷ (codes "0") ∷ (codes "6") ∷ (codes "0") ∷ (codes "3") ∷ (codes "0") ∷ (codes "0") ∷ (codes "0") ∷ (codes "0") ∷ (codes "0") ∷ (codes "0") ∷ (codes "0") ∷ (codes "0") ∷ (codes "0") ∷ (codes "0") ∷ (codes "0") ∷ (codes "0") ∷ (codes "0") ∷ (codes "6") ∷ (codes "0") ∷ (codes "3") ∷ (codes "0") ∷ (codes "545") ∷ (codes "296") ∷ (codes "149") ∷ (codes "296") ∷ (codes "296") ∷ []) ∷ [])
+unfolding reading_on_literals running_on_literals columns_of
+case_0_outages_of_different_chances = refl
+
 -- version-3/outages_one_after_another.toml
 case_0_outages_one_after_another : shown_upto 3 39 [] (codes "# Without fails_permille each service that ends in an outage fails. At 200 the first outage is over and the second\n# begins. The third is empty.\nversion = 3\nhorizon = 1000\n[[queue]]\nname = \"q\"\n[[actor]]\nname = \"c\"\nkind = \"consumer\"\nqueue = \"q\"\nstart_ms = 50\nbatch = 6\nwait_s = 20\nservice_min_ms = 50\nservice_max_ms = 50\nfails_between_ms = [[150, 200], [200, 250], [300, 300]]\n[[actor]]\nname = \"s\"\nkind = \"script\"\nqueue = \"q\"\ncalls = \"\"\"\nat,call,body,group,id,delay,receipt,max,wait,timeout,task\n0,send,a,,,,,,,,\n1,send,b,,,,,,,,\n2,send,c,,,,,,,,\n3,send,a,,,,,,,,\n4,send,b,,,,,,,,\n5,send,c,,,,,,,,\n\"\"\"\n")
     ≡ ran (((codes "at") ∷ (codes "queue") ∷ (codes "agent") ∷ (codes "call") ∷ (codes "answer") ∷ (codes "message") ∷ (codes "receipt") ∷ (codes "detail") ∷ []) ∷
@@ -1275,6 +1588,38 @@ case_0_outages_one_after_another : shown_upto 3 39 [] (codes "# Without fails_pe
     ((codes "report") ∷ (codes "q") ∷ (codes "6") ∷ (codes "0") ∷ (codes "6") ∷ (codes "0") ∷ (codes "4") ∷ (codes "0") ∷ (codes "0") ∷ (codes "0") ∷ (codes "0") ∷ (codes "0") ∷ (codes "0") ∷ (codes "0") ∷ (codes "0") ∷ (codes "0") ∷ (codes "0") ∷ (codes "0") ∷ (codes "0") ∷ (codes "0") ∷ (codes "6") ∷ (codes "0") ∷ (codes "2") ∷ (codes "0") ∷ (codes "988") ∷ (codes "345") ∷ (codes "247") ∷ (codes "345") ∷ (codes "345") ∷ []) ∷ [])
 unfolding reading_on_literals running_on_literals columns_of
 case_0_outages_one_after_another = refl
+
+-- version-3/outages_that_overlap.toml
+case_0_outages_that_overlap : shown_upto 3 39 [] (codes "# Services end at 100, 150, 200, 250, 300 and 350. A moment in several outages has the chance of the first of them in the\n# list: at 150 and 200 that of the first, at 100 and 250 that of the second, and at 300 and 350 that of the third.\nversion = 3\nhorizon = 1000\n[[queue]]\nname = \"q\"\n[[actor]]\nname = \"c\"\nkind = \"consumer\"\nqueue = \"q\"\nstart_ms = 50\nbatch = 6\nwait_s = 20\nservice_min_ms = 50\nservice_max_ms = 50\nfail_permille = 1000\nfails_between_ms = [[150, 250], [100, 300], [200, 400]]\nfails_permille = [0, 1000, 0]\n[[actor]]\nname = \"s\"\nkind = \"script\"\nqueue = \"q\"\ncalls = \"\"\"\nat,call,body,group,id,delay,receipt,max,wait,timeout,task\n0,send,a,,,,,,,,\n1,send,b,,,,,,,,\n2,send,c,,,,,,,,\n3,send,a,,,,,,,,\n4,send,b,,,,,,,,\n5,send,c,,,,,,,,\n\"\"\"\n")
+    ≡ ran (((codes "at") ∷ (codes "queue") ∷ (codes "agent") ∷ (codes "call") ∷ (codes "answer") ∷ (codes "message") ∷ (codes "receipt") ∷ (codes "detail") ∷ []) ∷
+    ((codes "0") ∷ (codes "q") ∷ (codes "s") ∷ (codes "send") ∷ (codes "new") ∷ (codes "m-0-0") ∷ [] ∷ digest (codes "a") ∷ []) ∷
+    ((codes "1") ∷ (codes "q") ∷ (codes "s") ∷ (codes "send") ∷ (codes "new") ∷ (codes "m-0-1") ∷ [] ∷ digest (codes "b") ∷ []) ∷
+    ((codes "2") ∷ (codes "q") ∷ (codes "s") ∷ (codes "send") ∷ (codes "new") ∷ (codes "m-0-2") ∷ [] ∷ digest (codes "c") ∷ []) ∷
+    ((codes "3") ∷ (codes "q") ∷ (codes "s") ∷ (codes "send") ∷ (codes "new") ∷ (codes "m-0-3") ∷ [] ∷ digest (codes "a") ∷ []) ∷
+    ((codes "4") ∷ (codes "q") ∷ (codes "s") ∷ (codes "send") ∷ (codes "new") ∷ (codes "m-0-4") ∷ [] ∷ digest (codes "b") ∷ []) ∷
+    ((codes "5") ∷ (codes "q") ∷ (codes "s") ∷ (codes "send") ∷ (codes "new") ∷ (codes "m-0-5") ∷ [] ∷ digest (codes "c") ∷ []) ∷
+    ((codes "50") ∷ (codes "q") ∷ (codes "c") ∷ (codes "receive") ∷ (codes "ok") ∷ (codes "m-0-0") ∷ (codes "r-0-0-1") ∷ (codes "o-0-0") ∷ []) ∷
+    ((codes "50") ∷ (codes "q") ∷ (codes "c") ∷ (codes "receive") ∷ (codes "ok") ∷ (codes "m-0-1") ∷ (codes "r-0-1-1") ∷ (codes "o-0-1") ∷ []) ∷
+    ((codes "50") ∷ (codes "q") ∷ (codes "c") ∷ (codes "receive") ∷ (codes "ok") ∷ (codes "m-0-2") ∷ (codes "r-0-2-1") ∷ (codes "o-0-2") ∷ []) ∷
+    ((codes "50") ∷ (codes "q") ∷ (codes "c") ∷ (codes "receive") ∷ (codes "ok") ∷ (codes "m-0-3") ∷ (codes "r-0-3-1") ∷ (codes "o-0-3") ∷ []) ∷
+    ((codes "50") ∷ (codes "q") ∷ (codes "c") ∷ (codes "receive") ∷ (codes "ok") ∷ (codes "m-0-4") ∷ (codes "r-0-4-1") ∷ (codes "o-0-4") ∷ []) ∷
+    ((codes "50") ∷ (codes "q") ∷ (codes "c") ∷ (codes "receive") ∷ (codes "ok") ∷ (codes "m-0-5") ∷ (codes "r-0-5-1") ∷ (codes "o-0-5") ∷ []) ∷
+    ((codes "100") ∷ (codes "q") ∷ (codes "c") ∷ (codes "fail") ∷ (codes "ok") ∷ (codes "m-0-0") ∷ (codes "r-0-0-1") ∷ [] ∷ []) ∷
+    ((codes "150") ∷ (codes "q") ∷ (codes "c") ∷ (codes "delete") ∷ (codes "deleted") ∷ (codes "m-0-1") ∷ (codes "r-0-1-1") ∷ (codes "149") ∷ []) ∷
+    ((codes "200") ∷ (codes "q") ∷ (codes "c") ∷ (codes "delete") ∷ (codes "deleted") ∷ (codes "m-0-2") ∷ (codes "r-0-2-1") ∷ (codes "198") ∷ []) ∷
+    ((codes "250") ∷ (codes "q") ∷ (codes "c") ∷ (codes "fail") ∷ (codes "ok") ∷ (codes "m-0-3") ∷ (codes "r-0-3-1") ∷ [] ∷ []) ∷
+    ((codes "300") ∷ (codes "q") ∷ (codes "c") ∷ (codes "delete") ∷ (codes "deleted") ∷ (codes "m-0-4") ∷ (codes "r-0-4-1") ∷ (codes "296") ∷ []) ∷
+    ((codes "350") ∷ (codes "q") ∷ (codes "c") ∷ (codes "delete") ∷ (codes "deleted") ∷ (codes "m-0-5") ∷ (codes "r-0-5-1") ∷ (codes "345") ∷ []) ∷
+    ((codes "351") ∷ (codes "q") ∷ (codes "c") ∷ (codes "receive") ∷ (codes "wait") ∷ [] ∷ [] ∷ [] ∷ []) ∷
+    ((codes "final") ∷ (codes "queue") ∷ (codes "message") ∷ (codes "origin") ∷ (codes "place") ∷ (codes "due") ∷ (codes "enqueued") ∷ (codes "receives") ∷ (codes "group") ∷ (codes "md5") ∷ []) ∷
+    ((codes "final") ∷ (codes "q") ∷ (codes "m-0-0") ∷ (codes "o-0-0") ∷ (codes "inflight") ∷ (codes "30050") ∷ (codes "0") ∷ (codes "1") ∷ [] ∷ digest (codes "a") ∷ []) ∷
+    ((codes "final") ∷ (codes "q") ∷ (codes "m-0-3") ∷ (codes "o-0-3") ∷ (codes "inflight") ∷ (codes "30050") ∷ (codes "3") ∷ (codes "1") ∷ [] ∷ digest (codes "a") ∷ []) ∷
+    ((codes "transfer") ∷ (codes "from") ∷ (codes "to") ∷ (codes "kind") ∷ (codes "due") ∷ (codes "number") ∷ (codes "message") ∷ (codes "origin") ∷ (codes "md5") ∷ []) ∷
+    ((codes "task") ∷ (codes "name") ∷ (codes "status") ∷ (codes "moved") ∷ []) ∷
+    ((codes "report") ∷ (codes "queue") ∷ (codes "sends") ∷ (codes "repeats") ∷ (codes "receives") ∷ (codes "empties") ∷ (codes "deletes") ∷ (codes "expiries") ∷ (codes "redrives") ∷ (codes "moves") ∷ (codes "arrivals") ∷ (codes "OverLimit") ∷ (codes "MessageNotInflight") ∷ (codes "ReceiptHandleIsInvalid") ∷ (codes "BadTimeout") ∷ (codes "MissingGroup") ∷ (codes "MissingDeduplication") ∷ (codes "BadDelay") ∷ (codes "TaskRunning") ∷ (codes "NoTask") ∷ (codes "depth_max") ∷ (codes "visible") ∷ (codes "in_flight") ∷ (codes "delayed") ∷ (codes "age_sum") ∷ (codes "age_max") ∷ (codes "age_p50") ∷ (codes "age_p95") ∷ (codes "age_p99") ∷ []) ∷
+    ((codes "report") ∷ (codes "q") ∷ (codes "6") ∷ (codes "0") ∷ (codes "6") ∷ (codes "0") ∷ (codes "4") ∷ (codes "0") ∷ (codes "0") ∷ (codes "0") ∷ (codes "0") ∷ (codes "0") ∷ (codes "0") ∷ (codes "0") ∷ (codes "0") ∷ (codes "0") ∷ (codes "0") ∷ (codes "0") ∷ (codes "0") ∷ (codes "0") ∷ (codes "6") ∷ (codes "0") ∷ (codes "2") ∷ (codes "0") ∷ (codes "988") ∷ (codes "345") ∷ (codes "198") ∷ (codes "345") ∷ (codes "345") ∷ []) ∷ [])
+unfolding reading_on_literals running_on_literals columns_of
+case_0_outages_that_overlap = refl
 
 -- version-3/outages_with_a_chance_of_zero.toml
 case_0_outages_with_a_chance_of_zero : shown_upto 3 39 [] (codes "# Services end at 100, 150, 200, 250, 300 and 350. In the outages, which are from 100 to 199 and from 300 to 349, none\n# fails. At the other moments each fails.\nversion = 3\nhorizon = 1000\n[[queue]]\nname = \"q\"\n[[actor]]\nname = \"c\"\nkind = \"consumer\"\nqueue = \"q\"\nstart_ms = 50\nbatch = 6\nwait_s = 20\nservice_min_ms = 50\nservice_max_ms = 50\nfail_permille = 1000\nfails_between_ms = [[100, 200], [300, 350]]\nfails_permille = 0\n[[actor]]\nname = \"s\"\nkind = \"script\"\nqueue = \"q\"\ncalls = \"\"\"\nat,call,body,group,id,delay,receipt,max,wait,timeout,task\n0,send,a,,,,,,,,\n1,send,b,,,,,,,,\n2,send,c,,,,,,,,\n3,send,a,,,,,,,,\n4,send,b,,,,,,,,\n5,send,c,,,,,,,,\n\"\"\"\n")
@@ -1308,6 +1653,39 @@ case_0_outages_with_a_chance_of_zero : shown_upto 3 39 [] (codes "# Services end
     ((codes "report") ∷ (codes "q") ∷ (codes "6") ∷ (codes "0") ∷ (codes "6") ∷ (codes "0") ∷ (codes "3") ∷ (codes "0") ∷ (codes "0") ∷ (codes "0") ∷ (codes "0") ∷ (codes "0") ∷ (codes "0") ∷ (codes "0") ∷ (codes "0") ∷ (codes "0") ∷ (codes "0") ∷ (codes "0") ∷ (codes "0") ∷ (codes "0") ∷ (codes "6") ∷ (codes "0") ∷ (codes "3") ∷ (codes "0") ∷ (codes "545") ∷ (codes "296") ∷ (codes "149") ∷ (codes "296") ∷ (codes "296") ∷ []) ∷ [])
 unfolding reading_on_literals running_on_literals columns_of
 case_0_outages_with_a_chance_of_zero = refl
+
+-- version-3/outages_with_drawn_chances.toml
+case_0_outages_with_drawn_chances : shown_upto 3 39 [] (codes "# Services end at 100, 150, 200, 250, 300 and 350. Of the words of agent 1 each second one is a chance: 982.301 (below 983:\n# it fails), 500.913 (not below 500), 672.884 and 195.525 (both below 673), 237.877 and 330.205 (neither below 237).\nversion = 3\nhorizon = 1000\n[[queue]]\nname = \"q\"\n[[actor]]\nname = \"c\"\nkind = \"consumer\"\nqueue = \"q\"\nstart_ms = 50\nbatch = 6\nwait_s = 20\nservice_min_ms = 50\nservice_max_ms = 50\nfails_between_ms = [[100, 150], [150, 200], [200, 300], [300, 400]]\nfails_permille = [983, 500, 673, 237]\n[[actor]]\nname = \"s\"\nkind = \"script\"\nqueue = \"q\"\ncalls = \"\"\"\nat,call,body,group,id,delay,receipt,max,wait,timeout,task\n0,send,a,,,,,,,,\n1,send,b,,,,,,,,\n2,send,c,,,,,,,,\n3,send,a,,,,,,,,\n4,send,b,,,,,,,,\n5,send,c,,,,,,,,\n\"\"\"\n")
+    ≡ ran (((codes "at") ∷ (codes "queue") ∷ (codes "agent") ∷ (codes "call") ∷ (codes "answer") ∷ (codes "message") ∷ (codes "receipt") ∷ (codes "detail") ∷ []) ∷
+    ((codes "0") ∷ (codes "q") ∷ (codes "s") ∷ (codes "send") ∷ (codes "new") ∷ (codes "m-0-0") ∷ [] ∷ digest (codes "a") ∷ []) ∷
+    ((codes "1") ∷ (codes "q") ∷ (codes "s") ∷ (codes "send") ∷ (codes "new") ∷ (codes "m-0-1") ∷ [] ∷ digest (codes "b") ∷ []) ∷
+    ((codes "2") ∷ (codes "q") ∷ (codes "s") ∷ (codes "send") ∷ (codes "new") ∷ (codes "m-0-2") ∷ [] ∷ digest (codes "c") ∷ []) ∷
+    ((codes "3") ∷ (codes "q") ∷ (codes "s") ∷ (codes "send") ∷ (codes "new") ∷ (codes "m-0-3") ∷ [] ∷ digest (codes "a") ∷ []) ∷
+    ((codes "4") ∷ (codes "q") ∷ (codes "s") ∷ (codes "send") ∷ (codes "new") ∷ (codes "m-0-4") ∷ [] ∷ digest (codes "b") ∷ []) ∷
+    ((codes "5") ∷ (codes "q") ∷ (codes "s") ∷ (codes "send") ∷ (codes "new") ∷ (codes "m-0-5") ∷ [] ∷ digest (codes "c") ∷ []) ∷
+    ((codes "50") ∷ (codes "q") ∷ (codes "c") ∷ (codes "receive") ∷ (codes "ok") ∷ (codes "m-0-0") ∷ (codes "r-0-0-1") ∷ (codes "o-0-0") ∷ []) ∷
+    ((codes "50") ∷ (codes "q") ∷ (codes "c") ∷ (codes "receive") ∷ (codes "ok") ∷ (codes "m-0-1") ∷ (codes "r-0-1-1") ∷ (codes "o-0-1") ∷ []) ∷
+    ((codes "50") ∷ (codes "q") ∷ (codes "c") ∷ (codes "receive") ∷ (codes "ok") ∷ (codes "m-0-2") ∷ (codes "r-0-2-1") ∷ (codes "o-0-2") ∷ []) ∷
+    ((codes "50") ∷ (codes "q") ∷ (codes "c") ∷ (codes "receive") ∷ (codes "ok") ∷ (codes "m-0-3") ∷ (codes "r-0-3-1") ∷ (codes "o-0-3") ∷ []) ∷
+    ((codes "50") ∷ (codes "q") ∷ (codes "c") ∷ (codes "receive") ∷ (codes "ok") ∷ (codes "m-0-4") ∷ (codes "r-0-4-1") ∷ (codes "o-0-4") ∷ []) ∷
+    ((codes "50") ∷ (codes "q") ∷ (codes "c") ∷ (codes "receive") ∷ (codes "ok") ∷ (codes "m-0-5") ∷ (codes "r-0-5-1") ∷ (codes "o-0-5") ∷ []) ∷
+    ((codes "100") ∷ (codes "q") ∷ (codes "c") ∷ (codes "fail") ∷ (codes "ok") ∷ (codes "m-0-0") ∷ (codes "r-0-0-1") ∷ [] ∷ []) ∷
+    ((codes "150") ∷ (codes "q") ∷ (codes "c") ∷ (codes "delete") ∷ (codes "deleted") ∷ (codes "m-0-1") ∷ (codes "r-0-1-1") ∷ (codes "149") ∷ []) ∷
+    ((codes "200") ∷ (codes "q") ∷ (codes "c") ∷ (codes "fail") ∷ (codes "ok") ∷ (codes "m-0-2") ∷ (codes "r-0-2-1") ∷ [] ∷ []) ∷
+    ((codes "250") ∷ (codes "q") ∷ (codes "c") ∷ (codes "fail") ∷ (codes "ok") ∷ (codes "m-0-3") ∷ (codes "r-0-3-1") ∷ [] ∷ []) ∷
+    ((codes "300") ∷ (codes "q") ∷ (codes "c") ∷ (codes "delete") ∷ (codes "deleted") ∷ (codes "m-0-4") ∷ (codes "r-0-4-1") ∷ (codes "296") ∷ []) ∷
+    ((codes "350") ∷ (codes "q") ∷ (codes "c") ∷ (codes "delete") ∷ (codes "deleted") ∷ (codes "m-0-5") ∷ (codes "r-0-5-1") ∷ (codes "345") ∷ []) ∷
+    ((codes "351") ∷ (codes "q") ∷ (codes "c") ∷ (codes "receive") ∷ (codes "wait") ∷ [] ∷ [] ∷ [] ∷ []) ∷
+    ((codes "final") ∷ (codes "queue") ∷ (codes "message") ∷ (codes "origin") ∷ (codes "place") ∷ (codes "due") ∷ (codes "enqueued") ∷ (codes "receives") ∷ (codes "group") ∷ (codes "md5") ∷ []) ∷
+    ((codes "final") ∷ (codes "q") ∷ (codes "m-0-0") ∷ (codes "o-0-0") ∷ (codes "inflight") ∷ (codes "30050") ∷ (codes "0") ∷ (codes "1") ∷ [] ∷ digest (codes "a") ∷ []) ∷
+    ((codes "final") ∷ (codes "q") ∷ (codes "m-0-2") ∷ (codes "o-0-2") ∷ (codes "inflight") ∷ (codes "30050") ∷ (codes "2") ∷ (codes "1") ∷ [] ∷ digest (codes "c") ∷ []) ∷
+    ((codes "final") ∷ (codes "q") ∷ (codes "m-0-3") ∷ (codes "o-0-3") ∷ (codes "inflight") ∷ (codes "30050") ∷ (codes "3") ∷ (codes "1") ∷ [] ∷ digest (codes "a") ∷ []) ∷
+    ((codes "transfer") ∷ (codes "from") ∷ (codes "to") ∷ (codes "kind") ∷ (codes "due") ∷ (codes "number") ∷ (codes "message") ∷ (codes "origin") ∷ (codes "md5") ∷ []) ∷
+    ((codes "task") ∷ (codes "name") ∷ (codes "status") ∷ (codes "moved") ∷ []) ∷
+    ((codes "report") ∷ (codes "queue") ∷ (codes "sends") ∷ (codes "repeats") ∷ (codes "receives") ∷ (codes "empties") ∷ (codes "deletes") ∷ (codes "expiries") ∷ (codes "redrives") ∷ (codes "moves") ∷ (codes "arrivals") ∷ (codes "OverLimit") ∷ (codes "MessageNotInflight") ∷ (codes "ReceiptHandleIsInvalid") ∷ (codes "BadTimeout") ∷ (codes "MissingGroup") ∷ (codes "MissingDeduplication") ∷ (codes "BadDelay") ∷ (codes "TaskRunning") ∷ (codes "NoTask") ∷ (codes "depth_max") ∷ (codes "visible") ∷ (codes "in_flight") ∷ (codes "delayed") ∷ (codes "age_sum") ∷ (codes "age_max") ∷ (codes "age_p50") ∷ (codes "age_p95") ∷ (codes "age_p99") ∷ []) ∷
+    ((codes "report") ∷ (codes "q") ∷ (codes "6") ∷ (codes "0") ∷ (codes "6") ∷ (codes "0") ∷ (codes "3") ∷ (codes "0") ∷ (codes "0") ∷ (codes "0") ∷ (codes "0") ∷ (codes "0") ∷ (codes "0") ∷ (codes "0") ∷ (codes "0") ∷ (codes "0") ∷ (codes "0") ∷ (codes "0") ∷ (codes "0") ∷ (codes "0") ∷ (codes "6") ∷ (codes "0") ∷ (codes "3") ∷ (codes "0") ∷ (codes "790") ∷ (codes "345") ∷ (codes "296") ∷ (codes "345") ∷ (codes "345") ∷ []) ∷ [])
+unfolding reading_on_literals running_on_literals columns_of
+case_0_outages_with_drawn_chances = refl
 
 -- version-3/poison_in_a_fifo_group.toml
 case_0_poison_in_a_fifo_group : shown_upto 3 37 [] (codes "# The poison m-0-0 is first in group g and closes it while it is in flight. So at 111 the consumer gets m-0-2 of group\n# h. m-0-0 fails again at 1110 and leaves for the dead-letter queue at 2010. That opens the group: the waiting poll gets\n# m-0-1 in the same handling.\nversion = 3\nhorizon = 3000\n[[queue]]\nname = \"q.fifo\"\nvisibility_s = 1\ndead_letter = \"d.fifo\"\nmax_receives = 2\nlatency_min_ms = 20\nlatency_max_ms = 20\n[[queue]]\nname = \"d.fifo\"\n[[actor]]\nname = \"c\"\nkind = \"consumer\"\nqueue = \"q.fifo\"\nstart_ms = 10\nwait_s = 20\nservice_min_ms = 100\nservice_max_ms = 100\nfails_on = \"bad\"\n[[actor]]\nname = \"s\"\nkind = \"script\"\nqueue = \"q.fifo\"\ncalls = \"\"\"\nat,call,body,group,id,delay,receipt,max,wait,timeout,task\n0,send,bad,g,1,,,,,,\n1,send,a,g,2,,,,,,\n2,send,b,h,3,,,,,,\n\"\"\"\n")

@@ -7,6 +7,7 @@ use Rattle.std.proofs.lemmas.List.Sums.{sum_by-cons}
 use Rattle.std.proofs.lemmas.List.Elements.{All-head, All-tail}
 use Rattle.sim_clock.specs.declared.key.Key.{Key}
 use Rattle.sim_clock.specs.Firsts.{changed, without}
+use Rattle.sqs_message.specs.declared.ids.MessageId.{MessageId}
 use Rattle.sqs_message.specs.declared.message.Message.{Message}
 use Rattle.sqs_message.specs.declared.message.Place.{Place}
 use Rattle.sqs_message.specs.declared.message.Place.TheVariants as places
@@ -19,9 +20,10 @@ use Rattle.sqs_redrive.specs.declared.settings.QueueSettings.{QueueSettings}
 use Rattle.sqs_redrive.specs.declared.transfers.Load.{Load}
 use Rattle.sqs_model.specs.Acts.{all_came_back, came_back, got_row, redrive_by}
 use Rattle.sqs_model.specs.Giving.{all_got, all_left, all_received, all_released}
-use Rattle.sqs_model.specs.Queue.{Queue, has_number, in_flight, is_in_flight, is_visible, numbered, taken_out, with_change}
+use Rattle.sqs_model.specs.Queue.{Queue, has_number, id_of, in_flight, is_in_flight, is_visible, numbered, taken_out, with_change}
 use Rattle.sqs_model.specs.Receive.{got_of, received}
 use Rattle.sqs_model.specs.Return.{leaves, released, released_found, released_when, redrive_of, visible_again}
+use Rattle.sqs_model.specs.Scenario.{Scenario}
 use Rattle.sqs_model.specs.Site.{Core, Effect}
 use Rattle.sqs_model.proofs.Chosen.{Stand}
 use Rattle.sqs_model.proofs.Counts.{find_all, find_changed, find_picked, total, total_changed}
@@ -29,8 +31,9 @@ use Rattle.sqs_model.proofs.Ledger.{bit}
 use Rattle.sqs_model.proofs.Giving.{find_apart}
 use Rattle.sqs_model.proofs.Numbered.{Apart, one_number, other_without}
 use Rattle.sqs_model.proofs.SiteAccounts.{IsFound}
+use Rattle.sqs_laws.specs.Laws.{is_fifo}
 use Rattle.sqs_laws.specs.Words as words
-use Rattle.sqs_laws.proofs.Moves.{Chain, IsStocked, Move, Tells, chain_append, one_move, receives, redrives, releases}
+use Rattle.sqs_laws.proofs.Moves.{Chain, IsNext, IsOfGroup, IsStocked, Move, Tells, chain_append, of_none, one_move, receives, redrives, releases}
 
 -- what a row tells, each as it computes
 pub tells : (r : Row) (a b c d e : Bool) → words.comes r ≡ a → words.received r ≡ b → words.changed r ≡ c → words.is_release r.kind ≡ d → words.leaves r ≡ e → Tells r a b c d e
@@ -103,7 +106,7 @@ flights_changed q n f m s a b =
 
 module _ (key : Key) where
   -- messages that are received
-  received_stand : (timeout : ℕ) (q : Queue) (m : Message) (ms : List Message) → All (λ x. x.number ≢ m.number) ms → Stand q ms → Stand (with_change q m.number (received key.at timeout)) ms
+  pub received_stand : (timeout : ℕ) (q : Queue) (m : Message) (ms : List Message) → All (λ x. x.number ≢ m.number) ms → Stand q ms → Stand (with_change q m.number (received key.at timeout)) ms
   received_stand timeout q m ms d s =
       λ i e l.
       let x : Message = get_or ms i e in
@@ -135,25 +138,46 @@ module _ (key : Key) where
   received_more : (timeout : ℕ) (q : Queue) (m : Message) → numbered m.number q.records ≡ Some m → is_visible m ≡ true → in_flight (with_change q m.number (received key.at timeout)) ≡ in_flight q + 1
   received_more timeout q m s v = flights_changed q m.number (received key.at timeout) m s (visible_rests m.place v) refl
 
+  -- of messages received one after another each is the next of its group, behind the rows of those before it
+  abbrev pub AreNext : Core → ℕ → ℕ → List Row → List Message → List Got → Queue → Type 0
+  AreNext c agent timeout past [] gots q = Unit {0}
+  AreNext c agent timeout past ms [] q = Unit {0}
+  AreNext c agent timeout past (m ∷ ms) (g ∷ gs) q =
+      (is_fifo q.settings.kind ≡ true → IsNext past q (got_row key c agent g) m.number m)
+      × AreNext c agent timeout (past ++ got_row key c agent g ∷ []) ms gs (with_change q m.number (received key.at timeout))
+
+  of_next : (u : Scenario) (past : List Row) (c : Core) (agent : ℕ) (q : Queue) (m : Message) (g : Got) (x : Queue) → IsToldOf q.site m g → numbered m.number q.records ≡ Some m → (is_fifo q.settings.kind ≡ true → IsNext past q (got_row key c agent g) m.number m) → IsOfGroup u past q (got_row key c agent g) x
+  of_next u past c agent q m g x t s o =
+      record {
+        given = λ e. cc;
+        repeats = λ e. cc;
+        next = λ e f n one i h.
+            let id : g.id ≡ id_of q n = cc in
+            let is : m.number ≡ n = sym (ap (λ (y : MessageId). y.number) t.id) ∙ ap (λ (y : MessageId). y.number) id in
+            let same : m ≡ one = let found : Some m ≡ Some one = sym s ∙ ap (λ k. numbered k q.records) is ∙ h in cc in
+            subst (λ k. IsNext past q (got_row key c agent g) k one) is (subst (IsNext past q (got_row key c agent g) m.number) same (o f));
+      }
+
   pub received_chain :
-      (c : Core) (agent timeout : ℕ) (ms : List Message) (gots : List Got) (q : Queue) → c.queue.site ≡ q.site → AreToldOf q.site ms gots → Apart ms → Stand q ms
-      → All (λ m. is_visible m ≡ true) ms → length ms ≤ q.settings.in_flight_limit - in_flight q → Chain key q (map (got_row key c agent) gots) (all_received key.at timeout ms q)
-  received_chain c agent timeout [] [] q e t d s v l = refl
-  received_chain c agent timeout (m ∷ ms) (g ∷ gs) q e t d s v l =
+      (u : Scenario) (past : List Row) (c : Core) (agent timeout : ℕ) (ms : List Message) (gots : List Got) (q : Queue) → c.queue.site ≡ q.site → AreToldOf q.site ms gots → Apart ms → Stand q ms
+      → All (λ m. is_visible m ≡ true) ms → length ms ≤ q.settings.in_flight_limit - in_flight q → AreNext c agent timeout past ms gots q → Chain u past key q (map (got_row key c agent) gots) (all_received key.at timeout ms q)
+  received_chain u past c agent timeout [] [] q e t d s v l o = refl
+  received_chain u past c agent timeout (m ∷ ms) (g ∷ gs) q e t d s v l o =
       let x : Queue = with_change q m.number (received key.at timeout) in (
         x,
         one_received c agent timeout q m g e t.0 (All-head (λ y. numbered y.number q.records ≡ Some y) m ms s) (All-head (λ y. is_visible y ≡ true) m ms v) (omega (arith, l)),
-        received_chain c agent timeout ms gs x e t.1 d.1 (received_stand timeout q m ms d.0 (All-tail (λ y. numbered y.number q.records ≡ Some y) m ms s)) (All-tail (λ y. is_visible y ≡ true) m ms v) (omega (arith, l, received_more timeout q m (All-head (λ y. numbered y.number q.records ≡ Some y) m ms s) (All-head (λ y. is_visible y ≡ true) m ms v))),
+        of_next u past c agent q m g x t.0 (All-head (λ y. numbered y.number q.records ≡ Some y) m ms s) o.0,
+        received_chain u (past ++ got_row key c agent g ∷ []) c agent timeout ms gs x e t.1 d.1 (received_stand timeout q m ms d.0 (All-tail (λ y. numbered y.number q.records ≡ Some y) m ms s)) (All-tail (λ y. is_visible y ≡ true) m ms v) (omega (arith, l, received_more timeout q m (All-head (λ y. numbered y.number q.records ≡ Some y) m ms s) (All-head (λ y. is_visible y ≡ true) m ms v))) o.1,
       )
-  received_chain c agent timeout [] (g ∷ gs) q e t d s v l = absurd t
-  received_chain c agent timeout (m ∷ ms) [] q e t d s v l = absurd t
+  received_chain u past c agent timeout [] (g ∷ gs) q e t d s v l o = absurd t
+  received_chain u past c agent timeout (m ∷ ms) [] q e t d s v l o = absurd t
 
   -- a message that comes back
   back_when :
-      (b : Bool) (o : Option Policy) (q : Queue) (d : Core) (n : ℕ) (m : Message) → d.queue.site ≡ q.site → q.settings.policy ≡ o → d.queue.settings.policy ≡ o → leaves o m ≡ b → numbered n q.records ≡ Some m
-      → Chain key q (came_back key d n (released_when b q n m).1).rows (released_when b q n m).0
-  back_when false o q d n m e p k l f =
-      one_move key q _ _
+      (u : Scenario) (past : List Row) (b : Bool) (o : Option Policy) (q : Queue) (d : Core) (n : ℕ) (m : Message) → d.queue.site ≡ q.site → q.settings.policy ≡ o → d.queue.settings.policy ≡ o → leaves o m ≡ b → numbered n q.records ≡ Some m
+      → Chain u past key q (came_back key d n (released_when b q n m).1).rows (released_when b q n m).0
+  back_when u past false o q d n m e p k l f =
+      one_move u past key q _ _
       (record {
         at_key = refl;
         at_site = e;
@@ -168,12 +192,12 @@ module _ (key : Key) where
               lasts = ap (λ x. leaves x m) p ∙ l;
               after = refl;
             });
-      })
-  back_when true None q d n m e p k l f = cc
-  back_when true (Some policy) q d n m e p k l f =
+      }) (of_none u past q _ _ refl refl refl)
+  back_when u past true None q d n m e p k l f = cc
+  back_when u past true (Some policy) q d n m e p k l f =
       let rows : List Row = (redrive_by (Some policy) key d n (redrive_of q m)).rows in
-      subst (λ x. Chain key q (redrive_by x key d n (redrive_of q m)).rows (taken_out q n)) (sym k)
-      (one_move key q _ _
+      subst (λ x. Chain u past key q (redrive_by x key d n (redrive_of q m)).rows (taken_out q n)) (sym k)
+      (one_move u past key q _ _
       (record {
         at_key = refl;
         at_site = e;
@@ -193,7 +217,7 @@ module _ (key : Key) where
               to = refl;
               after = refl;
             });
-      }))
+      }) (of_none u past q _ _ refl refl refl))
 
   -- a row about it leaves the site's queue and actors as they are
   pub record Told (d e : Core) : Type 0 where
@@ -209,13 +233,13 @@ module _ (key : Key) where
   back_told d n (Some load) = redriven_told d n load d.queue.settings.policy
 
   pub one_back :
-      (q : Queue) (d : Core) (n : ℕ) (m : Message) → d.queue.site ≡ q.site → d.queue.settings ≡ q.settings → numbered n q.records ≡ Some m
-      → Chain key q (came_back key d n (released q n).1).rows (released q n).0
-  one_back q d n m e s f =
+      (u : Scenario) (past : List Row) (q : Queue) (d : Core) (n : ℕ) (m : Message) → d.queue.site ≡ q.site → d.queue.settings ≡ q.settings → numbered n q.records ≡ Some m
+      → Chain u past key q (came_back key d n (released q n).1).rows (released q n).0
+  one_back u past q d n m e s f =
       let same : d.queue.settings.policy ≡ q.settings.policy = ap (λ (x : QueueSettings). x.policy) s in
       let back : Queue × Option Load = released_when (leaves q.settings.policy m) q n m in
-      subst (λ x. Chain key q (came_back key d n (released_found q n x).1).rows (released_found q n x).0) (sym f)
-      (back_when (leaves q.settings.policy m) q.settings.policy q d n m e refl same refl f)
+      subst (λ x. Chain u past key q (came_back key d n (released_found q n x).1).rows (released_found q n x).0) (sym f)
+      (back_when u past (leaves q.settings.policy m) q.settings.policy q d n m e refl same refl f)
 
   -- messages that come back one after another, each told with what left
   abbrev pub AreBack : Queue → List Message → List Got → Type 0
@@ -253,27 +277,27 @@ module _ (key : Key) where
       let x : Message = get_or ms i e in
       subst IsFound (sym (other_back_found (numbered m.number q.records) q x.number m.number (d i e l))) (s i e l)
 
-  found_by : (q : Queue) (d : Core) (n : ℕ) (o : Option Message) → numbered n q.records ≡ o → IsFound o → d.queue.site ≡ q.site → d.queue.settings ≡ q.settings → Chain key q (came_back key d n (released q n).1).rows (released q n).0
-  found_by q d n None f t e s = absurd t
-  found_by q d n (Some m) f t e s = one_back q d n m e s f
+  found_by : (u : Scenario) (past : List Row) (q : Queue) (d : Core) (n : ℕ) (o : Option Message) → numbered n q.records ≡ o → IsFound o → d.queue.site ≡ q.site → d.queue.settings ≡ q.settings → Chain u past key q (came_back key d n (released q n).1).rows (released q n).0
+  found_by u past q d n None f t e s = absurd t
+  found_by u past q d n (Some m) f t e s = one_back u past q d n m e s f
 
   pub back_chain :
-      (ms : List Message) (gots : List Got) (q : Queue) (d : Core) → d.queue.site ≡ q.site → d.queue.settings ≡ q.settings → AreBack q ms gots → Apart ms → AreThere q ms
-      → Chain key q (all_came_back key gots d).rows (all_released ms q)
-  back_chain [] [] q d e s b a t = refl
-  back_chain (m ∷ ms) (g ∷ gs) q d e s b a t =
+      (u : Scenario) (past : List Row) (ms : List Message) (gots : List Got) (q : Queue) (d : Core) → d.queue.site ≡ q.site → d.queue.settings ≡ q.settings → AreBack q ms gots → Apart ms → AreThere q ms
+      → Chain u past key q (all_came_back key gots d).rows (all_released ms q)
+  back_chain u past [] [] q d e s b a t = refl
+  back_chain u past (m ∷ ms) (g ∷ gs) q d e s b a t =
       let x : Queue = (released q m.number).0 in
       let f : Effect = came_back key d g.id.number g.left in
       let same : Told d f.core = back_told d g.id.number g.left in
       let frame = frame_found (numbered m.number q.records) q m.number in
-      let one : Chain key q (came_back key d m.number (released q m.number).1).rows x = found_by q d m.number (numbered m.number q.records) refl (All-head (λ y. IsFound (numbered y.number q.records)) m ms t) e s in
-      let here : Chain key q f.rows x = subst (λ n. Chain key q (came_back key d n g.left).rows x) (sym b.0) (subst (λ l. Chain key q (came_back key d m.number l).rows x) (sym b.1) one) in
+      let one : Chain u past key q (came_back key d m.number (released q m.number).1).rows x = found_by u past q d m.number (numbered m.number q.records) refl (All-head (λ y. IsFound (numbered y.number q.records)) m ms t) e s in
+      let here : Chain u past key q f.rows x = subst (λ n. Chain u past key q (came_back key d n g.left).rows x) (sym b.0) (subst (λ l. Chain u past key q (came_back key d m.number l).rows x) (sym b.1) one) in
       let site : f.core.queue.site ≡ x.site = ap (λ (y : Queue). y.site) same.queue ∙ e ∙ sym frame.0 in
       let settings : f.core.queue.settings ≡ x.settings = ap (λ (y : Queue). y.settings) same.queue ∙ s ∙ sym frame.1 in
-      chain_append key f.rows (all_came_back key gs f.core).rows q x (all_released ms x) here
-      (back_chain ms gs x f.core site settings b.2 a.1 (back_there q m ms a.0 (All-tail (λ y. IsFound (numbered y.number q.records)) m ms t)))
-  back_chain [] (g ∷ gs) q d e s b a t = absurd b
-  back_chain (m ∷ ms) [] q d e s b a t = absurd b
+      chain_append u past key f.rows (all_came_back key gs f.core).rows q x (all_released ms x) here
+      (back_chain u (past ++ f.rows) ms gs x f.core site settings b.2 a.1 (back_there q m ms a.0 (All-tail (λ y. IsFound (numbered y.number q.records)) m ms t)))
+  back_chain u past [] (g ∷ gs) q d e s b a t = absurd b
+  back_chain u past (m ∷ ms) [] q d e s b a t = absurd b
 
   pub all_told : (gots : List Got) (d : Core) → Told d (all_came_back key gots d).core
   all_told [] d = record { queue = refl; actors = refl }

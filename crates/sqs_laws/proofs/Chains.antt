@@ -1,48 +1,57 @@
 -- The rows of a handling are a chain of single moves.
-use Rattle.std.specs.Prelude.{All, List, None, Option, Some, [], false, ℕ, ◌+◌, ◌++◌, ◌∷◌, ◌≡◌}
-use Rattle.std.proofs.Common.{refl, subst, sym, ◌∙◌}
+use Rattle.std.specs.Prelude.{All, List, None, Option, Result, Some, [], false, find, ℕ, ◌+◌, ◌++◌, ◌∷◌, ◌≡◌}
+use Rattle.std.proofs.Common.{ap, refl, subst, sym, ◌∙◌}
 use Rattle.std.proofs.lemmas.List.{append-nil, append_assoc}
 use Rattle.std.proofs.lemmas.List.Elements.{All-weaker}
-use Rattle.sim_clock.specs.declared.key.Class.TheVariants.{Expiry}
+use Rattle.sim_clock.specs.declared.key.Class.TheVariants.{Expiry, Wake}
 use Rattle.sim_clock.specs.declared.key.Key.{Key}
 use Rattle.sqs_message.specs.declared.message.Message.{Message}
 use Rattle.sqs_message.specs.declared.row.Row.{Row}
 use Rattle.sqs_redrive.specs.declared.answers.Got.{Got}
+use Rattle.sim_clock.specs.declared.refusal.Refusal.{Refusal}
+use Rattle.sqs_redrive.specs.declared.answers.Sent.{Sent}
+use Rattle.sqs_model.specs.declared.acts.Act.{Act}
+use Rattle.sqs_model.specs.declared.acts.Act.TheVariants as acts
 use Rattle.sqs_model.specs.declared.acts.Answer.{Answer}
 use Rattle.sqs_model.specs.declared.acts.Answer.TheVariants as told_by
+use Rattle.sqs_model.specs.declared.acts.Standing.{Standing}
 use Rattle.sqs_model.specs.Actor.{Actor, next}
-use Rattle.sqs_model.specs.Acts.{given, with_poll}
+use Rattle.sqs_model.specs.Acts.{act_made, given, send_made, sends, with_poll}
 use Rattle.sqs_model.specs.Arrive.{arrived}
 use Rattle.sqs_model.specs.Queue.{Queue, numbered}
 use Rattle.sqs_model.specs.Receive.{give_most}
 use Rattle.sqs_model.specs.Return.{released}
+use Rattle.sqs_model.specs.Scenario.{Scenario}
 use Rattle.sqs_model.specs.Site.{Core, Effect, Site, actor_numbered, is_actor, says, with_actor}
 use Rattle.sqs_model.specs.Step.{arrival_done, handle_expiry, handle_step, handled, is_arrival, release_done}
-use Rattle.sqs_model.proofs.CallWalk.{CallLaw, DueLaw, IsNameless, IsTold, handled_goes}
+use Rattle.sqs_model.proofs.CallWalk.{IsDone, CallLaw, DueLaw, IsNameless, IsTold, handled_goes}
 use Rattle.sqs_model.proofs.Counts.{all_changed, find_all}
 use Rattle.sqs_model.proofs.SiteAccounts.{IsDueThere, IsFound}
+use Rattle.sqs_laws.proofs.Gives.{AreOfScenario, Fits, HasActed, HasSent, IsAwake, IsNoProducer, MayGive, other_acted, polled_fits, standing, stands, turn_gives, turned_found}
 use Rattle.sqs_laws.proofs.Giving.{AreKnown, IsGiven, most_given}
 use Rattle.sqs_laws.proofs.Holding.{HearsOfKnown, IsInformed, ServesKnown, informed_later, known_later, next_acts}
 use Rattle.sqs_laws.proofs.Numbers.{IsOver}
 use Rattle.sqs_laws.proofs.Moves.{Chain, IsStocked, Keeps, chain_append, chain_keeps, one_move}
-use Rattle.sqs_laws.proofs.Rows.{IsChain, arrived_chain, change_chain, delete_chain, expiry_chain, quiet_move, release_chain, sends_chain, serve_chain, step_chain}
+use Rattle.sqs_laws.proofs.Rows.{nameless_none, IsChain, arrived_chain, change_chain, delete_chain, expiry_chain, quiet_move, release_chain, sends_chain, serve_chain, step_chain}
 
 -- a site whose queue's messages are in order, and whose actors hold only messages of it
-pub record IsInOrder (c : Core) : Type 0 where
+pub record IsInOrder (u : Scenario) (c : Core) : Type 0 where
   pub stocked : IsStocked c.queue
+  pub numbers : AreOfScenario u c.actors
   pub actors : All (IsInformed c.queue.site c.queue.arrivals) c.actors
 
-module _ (key : Key) (start : Queue) (fine : IsStocked start) where
+module _ (u : Scenario) (past : List Row) (key : Key) (start : Queue) (fine : IsStocked start) where
   -- after some rows
   pub record At (rows : List Row) (c : Core) : Type 0 where
-    pub chain : Chain key start rows c.queue
+    pub chain : Chain u past key start rows c.queue
+    pub numbers : AreOfScenario u c.actors
     pub actors : All (IsInformed c.queue.site c.queue.arrivals) c.actors
 
   abbrev pub After : List Row → Effect → Type 0
   After rows e = At (rows ++ e.rows) e.core
 
   kept : (rows : List Row) (c : Core) → At rows c → Keeps start c.queue
-  kept rows c h = chain_keeps key rows start c.queue h.chain fine
+  kept rows c h = chain_keeps u past key rows start c.queue h.chain fine
 
   stocked : (rows : List Row) (c : Core) → At rows c → IsStocked c.queue
   stocked rows c h = (kept rows c h).stocked
@@ -53,11 +62,12 @@ module _ (key : Key) (start : Queue) (fine : IsStocked start) where
       let later : All (IsInformed c.queue.site q.arrivals) c.actors = All-weaker (IsInformed c.queue.site c.queue.arrivals) (IsInformed c.queue.site q.arrivals) (informed_later c.queue.site c.queue.arrivals q.arrivals k.arrivals) c.actors h in
       subst (λ others. All (IsInformed q.site q.arrivals) others) (sym e) (subst (λ s. All (IsInformed s q.arrivals) c.actors) k.site later)
 
-  extends : (rows : List Row) (c : Core) (e : Effect) → At rows c → IsChain key c e → After rows e
+  extends : (rows : List Row) (c : Core) (e : Effect) → At rows c → IsChain u (past ++ rows) key c e → After rows e
   extends rows c e h i =
       record {
-        chain = chain_append key rows e.rows start c.queue e.core.queue h.chain i.chain;
-        actors = informed c e.core.queue e.core.actors (chain_keeps key e.rows c.queue e.core.queue i.chain (stocked rows c h)) i.actors h.actors;
+        chain = chain_append u past key rows e.rows start c.queue e.core.queue h.chain i.chain;
+        numbers = subst (AreOfScenario u) (sym i.actors) h.numbers;
+        actors = informed c e.core.queue e.core.actors (chain_keeps u (past ++ rows) key e.rows c.queue e.core.queue i.chain (stocked rows c h)) i.actors h.actors;
       }
 
   at_rows : (rows more : List Row) (c : Core) → rows ≡ more → At rows c → At more c
@@ -66,7 +76,8 @@ module _ (key : Key) (start : Queue) (fine : IsStocked start) where
   quietly : (rows : List Row) (c d : Core) (r : Row) → IsNameless key c r → At rows c → At rows d → After rows (says d r)
   quietly rows c d r i h k =
       record {
-        chain = chain_append key rows (r ∷ []) start d.queue d.queue k.chain (one_move key d.queue r d.queue (quiet_move key c d.queue r (sym (kept rows c h).site ∙ (kept rows d k).site) i));
+        chain = chain_append u past key rows (r ∷ []) start d.queue d.queue k.chain (one_move u (past ++ rows) key d.queue r d.queue (quiet_move key c d.queue r (sym (kept rows c h).site ∙ (kept rows d k).site) i) (nameless_none u (past ++ rows) d.queue r i));
+        numbers = k.numbers;
         actors = k.actors;
       }
 
@@ -81,31 +92,73 @@ module _ (key : Key) (start : Queue) (fine : IsStocked start) where
   givingly rows c agent max timeout set h =
       let x : Queue × List Got = give_most c.queue key.at max timeout set in
       let e : Effect = given key c agent timeout x in
-      let g : IsGiven key c agent timeout x = most_given key c agent timeout max set (stocked rows c h) in (
+      let behind : List Row = past ++ rows in
+      let g : IsGiven u behind key c agent timeout x = most_given u behind key c agent timeout max set (stocked rows c h) in (
         extends rows c e h (record { chain = g.chain; actors = g.actors }),
-        later_heard c e.core.queue x.1 (chain_keeps key e.rows c.queue e.core.queue g.chain (stocked rows c h)) g.known,
+        later_heard c e.core.queue x.1 (chain_keeps u behind key e.rows c.queue e.core.queue g.chain (stocked rows c h)) g.known,
       )
 
-  told_known : (c : Core) (w : Answer) → IsTold Hears c w → HearsOfKnown c.queue.site c.queue.arrivals w
-  told_known c (told_by.Got gots) h = h
-  told_known c w h = tt
+  -- what holds of an actor after its turn
+  abbrev pub Stands : Queue → List Actor → Actor → Type 0
+  Stands q actors a = IsInformed q.site q.arrivals a × Fits u a × (find (is_actor a.number) actors ≡ Some a)
 
-  turning : (rows : List Row) (n : ℕ) (c : Core) (a : Actor) (w : Answer) → actor_numbered n c ≡ Some a → IsTold Hears c w → At rows c
-      → At rows (with_actor c (next a key.at w).1) × IsInformed c.queue.site c.queue.arrivals (next a key.at w).1 × ServesKnown c.queue.site c.queue.arrivals (next a key.at w).0
+  told_known : (c : Core) (n : ℕ) (w : Answer) → IsTold Hears (IsAwake key) (HasActed u key) c n w → HearsOfKnown c.queue.site c.queue.arrivals w
+  told_known c n (told_by.Got gots) h = h
+  told_known c n w h = tt
+
+  told_awake : (c : Core) (n : ℕ) (a : Actor) (w : Answer) → actor_numbered n c ≡ Some a → IsTold Hears (IsAwake key) (HasActed u key) c n w → (st : Standing) → w ≡ told_by.Wake st → a.wake ≡ Some key.at
+  told_awake c n a (told_by.Wake s) e h st f = h a e
+  told_awake c n a w e h st f = cc
+
+  told_acted : (c : Core) (n : ℕ) (a : Actor) (w : Answer) → actor_numbered n c ≡ Some a → IsTold Hears (IsAwake key) (HasActed u key) c n w → w ≡ told_by.Other → HasSent u.seed a.settings.role key.at a
+  told_acted c n a told_by.Other e h f = h a e
+  told_acted c n a w e h f = cc
+
+  -- what an act may be: it serves a message that is known, and gives the group that is told
+  abbrev pub Allows : Core → Actor → Act → Type 0
+  Allows c a x = ServesKnown c.queue.site c.queue.arrivals x × MayGive u key.at a x
+
+  turning : (rows : List Row) (n : ℕ) (c : Core) (a : Actor) (w : Answer) → actor_numbered n c ≡ Some a → IsTold Hears (IsAwake key) (HasActed u key) c n w → At rows c
+      → At rows (with_actor c (next a key.at w).1) × Stands c.queue (with_actor c (next a key.at w).1).actors (next a key.at w).1 × Allows (with_actor c (next a key.at w).1) (next a key.at w).1 (next a key.at w).0
   turning rows n c a w e t h =
       let one = find_all (is_actor n) (IsInformed c.queue.site c.queue.arrivals) c.actors a h.actors e in
-      let x = next_acts c.queue.site c.queue.arrivals key.at a w one (told_known c w t) in
-      let b : Actor = (next a key.at w).1 in (
-        record { chain = h.chain; actors = all_changed (is_actor b.number) (IsInformed c.queue.site c.queue.arrivals) (λ _. b) (λ _ _. x.informed) c.actors h.actors },
-        x.informed,
-        x.serves,
+      let x = next_acts c.queue.site c.queue.arrivals key.at a w one (told_known c n w t) in
+      let b : Actor = (next a key.at w).1 in
+      let f : Fits u b = standing u c.actors key n a w e h.numbers (told_acted c n a w e t) in (
+        record { chain = h.chain; numbers = stands u c.actors b f h.numbers; actors = all_changed (is_actor b.number) (IsInformed c.queue.site c.queue.arrivals) (λ _. b) (λ _ _. x.informed) c.actors h.actors },
+        (x.informed, f, turned_found u c.actors key n a w e),
+        (x.serves, turn_gives u c.actors key n a w e h.numbers f (told_awake c n a w e t)),
       )
 
-  polling : (rows : List Row) (a : Actor) (c : Core) (max wait : ℕ) (timeout : Option ℕ) → IsInformed c.queue.site c.queue.arrivals a → At rows c → At rows (with_poll key a c max wait timeout)
-  polling rows a c max wait timeout i h =
+  polling : (rows : List Row) (a : Actor) (c : Core) (max wait : ℕ) (timeout : Option ℕ) → Stands c.queue c.actors a → At rows c → At rows (with_poll key a c max wait timeout)
+  polling rows a c max wait timeout (i, f, e) h =
       let b : Actor = record a { polls = a.polls + 1 } in
       let j : IsInformed c.queue.site c.queue.arrivals b = record { held = i.held; done = i.done; failed = i.failed } in
-      record { chain = h.chain; actors = all_changed (is_actor b.number) (IsInformed c.queue.site c.queue.arrivals) (λ _. b) (λ _ _. j) c.actors h.actors }
+      record { chain = h.chain; numbers = stands u c.actors b (polled_fits u a (a.polls + 1) f) h.numbers; actors = all_changed (is_actor b.number) (IsInformed c.queue.site c.queue.arrivals) (λ _. b) (λ _ _. j) c.actors h.actors }
+
+  -- an actor that has acted
+  sent_leaves : (a : Actor) (c : Core) (body : List ℕ) (x : Result Sent Refusal × Queue) → (send_made key a c body x).effect.core.actors ≡ c.actors
+  sent_leaves a c body (x, q) = refl
+
+  others_act : (a : Actor) (c : Core) (x : Act) → Fits u a → IsNoProducer a.settings.role → AreOfScenario u (act_made key a c x).effect.core.actors → HasActed u key (act_made key a c x).effect.core a.number
+  others_act a c x f i h = other_acted u key a (act_made key a c x).effect.core f i h
+
+  acting : (a : Actor) (c : Core) (x : Act) → IsDone x → Fits u a → find (is_actor a.number) c.actors ≡ Some a → MayGive u key.at a x → AreOfScenario u (act_made key a c x).effect.core.actors → HasActed u key (act_made key a c x).effect.core a.number
+  unfolding act_made
+  acting a c (acts.Send body delay group id) i f e m n =
+      λ b y.
+      let found : find (is_actor a.number) c.actors ≡ Some b = ap (λ l. find (is_actor a.number) l) (sym (sent_leaves a c body (sends c.queue.settings.kind c.queue key.at body delay group id))) ∙ y in
+      let is : a ≡ b = let both : Some a ≡ Some b = sym e ∙ found in cc in
+      subst (λ (z : Actor). HasSent u.seed z.settings.role key.at z) is m.1
+  acting a c (acts.Receive max wait timeout) i f e m n = others_act a c (acts.Receive max wait timeout) f m n
+  acting a c (acts.Delete text) i f e m n = others_act a c (acts.Delete text) f m n
+  acting a c (acts.Change text timeout) i f e m n = others_act a c (acts.Change text timeout) f m n
+  acting a c (acts.Prolong text timeout) i f e m n = others_act a c (acts.Prolong text timeout) f m n
+  acting a c (acts.Start task) i f e m n = others_act a c (acts.Start task) f m n
+  acting a c (acts.Cancel task) i f e m n = others_act a c (acts.Cancel task) f m n
+  acting a c (acts.Serve id receipt failed forward) i f e m n = others_act a c (acts.Serve id receipt failed forward) f m n
+  acting a c (acts.Scale from to) i f e m n = others_act a c (acts.Scale from to) f m n
+  acting a c acts.Nothing i f e m n = absurd i
 
   -- the law by calls
   abbrev chains : CallLaw key
@@ -121,50 +174,54 @@ module _ (key : Key) (start : Queue) (fine : IsStocked start) where
         quiet = quietly;
         Hears = Hears;
         hears_none = λ c. tt;
+        Woken = IsAwake key;
+        Acted = HasActed u key;
         gives = givingly;
-        changes = λ rows a c text timeout h. extends rows c _ h (change_chain key a c text timeout (stocked rows c h));
-        deletes = λ rows a c text h. extends rows c _ h (delete_chain key a c text (stocked rows c h));
-        sends = λ rows a c body delay group id h. extends rows c _ h (sends_chain key c.queue.settings.kind a c body delay group id (stocked rows c h));
-        draws = λ rows c hosts h. record { chain = h.chain; actors = h.actors };
-        starts = λ rows c n t e h. record { chain = h.chain; actors = h.actors };
-        cancels = λ rows c n t e h. record { chain = h.chain; actors = h.actors };
-        Stands = λ q actors a. IsInformed q.site q.arrivals a;
-        May = λ c x. ServesKnown c.queue.site c.queue.arrivals x;
+        changes = λ rows a c text timeout h. extends rows c _ h (change_chain u (past ++ rows) key a c text timeout (stocked rows c h));
+        deletes = λ rows a c text h. extends rows c _ h (delete_chain u (past ++ rows) key a c text (stocked rows c h));
+        sends = λ rows a c body delay group id m h. extends rows c _ h (sends_chain u (past ++ rows) key c.queue.settings.kind a c body delay group id refl m.1.0 (stocked rows c h));
+        draws = λ rows c hosts h. record { chain = h.chain; numbers = h.numbers; actors = h.actors };
+        starts = λ rows c n t e h. record { chain = h.chain; numbers = h.numbers; actors = h.actors };
+        cancels = λ rows c n t e h. record { chain = h.chain; numbers = h.numbers; actors = h.actors };
+        Stands = Stands;
+        May = Allows;
         turns = turning;
+        acted = λ rows a c x i s m h g. acting a c x i s.1 s.2 m.1 g.numbers;
         polls = λ rows a c max wait timeout e s h. polling rows a c max wait timeout s h;
-        serves = λ rows a c id r failed o m h. extends rows c _ h (serve_chain key a c id r failed o m.0 m.1);
+        serves = λ rows a c id r failed o m h. extends rows c _ h (serve_chain u (past ++ rows) key a c id r failed o m.0.0 m.0.1);
       }
 
   expires_by : (rows : List Row) (c : Core) (o : Option Message) → numbered key.number c.queue.records ≡ o → IsFound o → IsOver key c → At rows c → After rows (handle_expiry key c)
   expires_by rows c None f t l h = absurd t
-  expires_by rows c (Some m) f t l h = extends rows c (handle_expiry key c) h (expiry_chain key c m f (l m f))
+  expires_by rows c (Some m) f t l h = extends rows c (handle_expiry key c) h (expiry_chain u (past ++ rows) key c m f (l m f))
 
   releases_by : (rows : List Row) (c : Core) (o : Option Message) → numbered key.number c.queue.records ≡ o → IsFound o → At rows c → After rows (release_done key c (released c.queue key.number))
   releases_by rows c None f t h = absurd t
-  releases_by rows c (Some m) f t h = extends rows c (release_done key c (released c.queue key.number)) h (release_chain key c m (stocked rows c h) f)
+  releases_by rows c (Some m) f t h = extends rows c (release_done key c (released c.queue key.number)) h (release_chain u (past ++ rows) key c m (stocked rows c h) f)
 
   abbrev due : DueLaw key chains
   due =
       record {
-        IsDue = λ k c. IsDueThere key k c × (k ≡ Expiry → IsOver key c);
-        answers = λ rows c h. record { chain = h.chain; actors = h.actors };
-        ends = λ rows c h. record { chain = h.chain; actors = h.actors };
+        IsDue = λ k c. IsDueThere key k c × (k ≡ Expiry → IsOver key c) × (k ≡ Wake → IsAwake key c key.agent);
+        woken = λ c d. d.2 refl;
+        answers = λ rows c h. record { chain = h.chain; numbers = h.numbers; actors = h.actors };
+        ends = λ rows c h. record { chain = h.chain; numbers = h.numbers; actors = h.actors };
         expires = λ rows c d h. expires_by rows c (numbered key.number c.queue.records) refl d.0 (d.1 refl) h;
         releases = λ rows c d h. releases_by rows c (numbered key.number c.queue.records) refl d.0 h;
         Comes = λ rows o c. At rows c;
         absent = λ rows c h. h;
-        arrives = λ rows o c h. extends rows c (arrival_done key o.load c (arrived c.queue key.at o.load)) h (arrived_chain key c o.load (stocked rows c h));
-        samples = λ rows c h. record { chain = h.chain; actors = h.actors };
-        steps = λ rows c t e h. extends rows c (handle_step key c (Some t)) h (step_chain key c t (stocked rows c h));
+        arrives = λ rows o c h. extends rows c (arrival_done key o.load c (arrived c.queue key.at o.load)) h (arrived_chain u (past ++ rows) key c o.load (stocked rows c h));
+        samples = λ rows c h. record { chain = h.chain; numbers = h.numbers; actors = h.actors };
+        steps = λ rows c t e h. extends rows c (handle_step key c (Some t)) h (step_chain u (past ++ rows) key c t (stocked rows c h));
       }
 
 -- the rows of a handling at a site in order are a chain, which leaves it in order
-pub record IsMoved (key : Key) (c : Core) (rows : List Row) (d : Core) : Type 0 where
-  pub chain : Chain key c.queue rows d.queue
-  pub order : IsInOrder d
+pub record IsMoved (u : Scenario) (past : List Row) (key : Key) (c : Core) (rows : List Row) (d : Core) : Type 0 where
+  pub chain : Chain u past key c.queue rows d.queue
+  pub order : IsInOrder u d
 
-pub handled_moves : (key : Key) (s : Site) → IsInOrder s.core → (is_arrival key.class ≡ false → IsDueThere key key.class s.core) → (key.class ≡ Expiry → IsOver key s.core) → IsMoved key s.core (handled key s).rows (handled key s).site.core
-handled_moves key s i d l =
-    let start : At key s.core.queue i.stocked [] s.core = record { chain = refl; actors = i.actors } in
-    let h : At key s.core.queue i.stocked (handled key s).rows (handled key s).site.core = handled_goes key (chains key s.core.queue i.stocked) (due key s.core.queue i.stocked) [] s (λ e. ((d e, l), start)) (λ _. start) in
-    record { chain = h.chain; order = record { stocked = stocked key s.core.queue i.stocked (handled key s).rows (handled key s).site.core h; actors = h.actors } }
+pub handled_moves : (u : Scenario) (past : List Row) (key : Key) (s : Site) → IsInOrder u s.core → (is_arrival key.class ≡ false → IsDueThere key key.class s.core) → (key.class ≡ Expiry → IsOver key s.core) → (key.class ≡ Wake → IsAwake key s.core key.agent) → IsMoved u past key s.core (handled key s).rows (handled key s).site.core
+handled_moves u past key s i d l w =
+    let start : At u past key s.core.queue i.stocked [] s.core = record { chain = refl; numbers = i.numbers; actors = i.actors } in
+    let h : At u past key s.core.queue i.stocked (handled key s).rows (handled key s).site.core = handled_goes key (chains u past key s.core.queue i.stocked) (due u past key s.core.queue i.stocked) [] s (λ e. ((d e, l, w), start)) (λ _. start) in
+    record { chain = h.chain; order = record { stocked = stocked u past key s.core.queue i.stocked (handled key s).rows (handled key s).site.core h; numbers = h.numbers; actors = h.actors } }

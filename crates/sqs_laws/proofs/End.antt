@@ -199,7 +199,7 @@ the_end s =
     record {
       Holds = Says;
       Meets = Meets;
-      moves = λ rows key q r p by m s h. does_end key rows q r p m.at_site s h m.does;
+      moves = λ rows key q r p by m g s h. does_end key rows q r p m.at_site s h m.does;
       apart = says_apart;
       opens = λ n settings e. record { came = refl; left = λ k o. absurd (omega (arith, o)); fresh = λ k o. refl };
     }

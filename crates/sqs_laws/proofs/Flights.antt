@@ -1,8 +1,7 @@
 -- Which messages are in flight, by the rows so far.
-use Rattle.std.specs.Prelude.{Bool, List, None, Option, Some, [], false, if◌then◌else◌, is_some, not, true, ℕ, ◌++◌, ◌==◌, ◌∷◌, ◌≡◌, ◌≢◌, ◌||◌}
+use Rattle.std.specs.Prelude.{Bool, List, None, Some, [], false, is_some, true, ℕ, ◌++◌, ◌==◌, ◌∷◌, ◌≡◌, ◌≢◌, ◌||◌}
 use Rattle.std.proofs.Common.{ap, refl, subst, sym, ◌∙◌}
 use Rattle.std.proofs.lemmas.Bool.{eqb-false, eqb-true}
-use Rattle.std.proofs.lemmas.List.Sums.{fold-append}
 use Rattle.sim_clock.specs.declared.key.Key.{Key}
 use Rattle.sqs_message.specs.declared.ids.MessageId.{MessageId}
 use Rattle.sqs_message.specs.declared.message.Message.{Message}
@@ -19,15 +18,9 @@ use Rattle.sqs_laws.specs.Words as words
 use Rattle.sqs_laws.proofs.Calls.{other_changed, own_changed, pushed_found}
 use Rattle.sqs_laws.proofs.Each.{each_but, each_pushed}
 use Rattle.sqs_laws.proofs.Moves.{Comes, Does, IsStocked, Names, Tells, changes, comes, ends, receives, redrives, releases, stays}
+use Rattle.sqs_laws.proofs.Naming.{flight_on, flight_push}
 use Rattle.sqs_laws.proofs.Said.{not_there, pushed_other, taken_absent, names_apart, names_other, names_same}
 use Rattle.sqs_laws.proofs.Worlds.{RowLaw}
-
--- the flight of a message with one more row
-abbrev flight_on : Bool → Bool → Bool → Option Row → Row → Option Row
-flight_on named begins over f r = if not named then f else (if begins then Some r else (if over then None else f))
-
-flight_push : (m : MessageId) (rows : List Row) (r : Row) → flight m (rows ++ r ∷ []) ≡ flight_on (names m r) (words.received r || changed r) (is_release r.kind || leaves r) (flight m rows) r
-flight_push m rows r = fold-append (λ f x. flight_on (names m x) (words.received x || changed x) (is_release x.kind || leaves x) f x) None rows (r ∷ [])
 
 flight_as : (m : MessageId) (rows : List Row) (r : Row) (a b c : Bool) → names m r ≡ a → (words.received r || changed r) ≡ b → (is_release r.kind || leaves r) ≡ c → flying m (rows ++ r ∷ []) ≡ is_some (flight_on a b c (flight m rows) r)
 flight_as m rows r a b c e f g =
@@ -148,7 +141,7 @@ flights s =
     record {
       Holds = Says;
       Meets = λ rows r. Unit {0};
-      moves = λ rows key q r p by m k h. (tt, does_fly key rows q r p k h m.does);
+      moves = λ rows key q r p by m g k h. (tt, does_fly key rows q r p k h m.does);
       apart = λ rows r q d own h.
           let still : (n : ℕ) → flying (id_of q n) (rows ++ r ∷ []) ≡ flying (id_of q n) rows = λ n. other_flies (id_of q n) rows r (names_apart (id_of q n) r own d) in
           record { flies = λ n m e. still n ∙ h.flies n m e; rests = λ n e. still n ∙ h.rests n e };

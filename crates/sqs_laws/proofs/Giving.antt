@@ -1,12 +1,13 @@
 -- The rows of a receive are a chain of single moves: all messages are received, and with a timeout of 0 all then come back.
 use Rattle.std.specs.List.{list_any}
-use Rattle.std.specs.Prelude.{All, Bool, List, None, Option, Some, [], cond, false, filter, get_or, if◌then◌else◌, length, map, min, not, true, ℕ, ◌&&◌, ◌%◌, ◌<◌, ◌==◌, ◌∷◌, ◌≡◌, ◌≤◌}
+use Rattle.std.specs.Prelude.{All, Bool, List, None, Option, Some, [], cond, false, filter, get_or, if◌then◌else◌, length, map, min, not, true, ℕ, ◌&&◌, ◌%◌, ◌++◌, ◌<◌, ◌==◌, ◌∷◌, ◌≡◌, ◌≤◌}
 use Rattle.std.proofs.Common.{ap, arith, refl, subst, sym, ◌∙◌}
 use Rattle.std.proofs.lemmas.Bool.{and_parts, eqb-false, eqb-true}
 use Rattle.std.proofs.lemmas.List.{length-take}
 use Rattle.std.proofs.lemmas.List.Elements.{All-cons, All-head, All-nil, All-tail, All-take}
 use Rattle.sim_clock.specs.declared.key.Key.{Key}
 use Rattle.sqs_message.specs.declared.message.Message.{Message}
+use Rattle.sqs_message.specs.declared.row.Row.{Row}
 use Rattle.sqs_redrive.specs.declared.answers.Got.{Got}
 use Rattle.sqs_redrive.specs.declared.settings.Kind.{Kind}
 use Rattle.sqs_redrive.specs.declared.settings.Kind.TheVariants.{Fifo, Standard}
@@ -16,6 +17,7 @@ use Rattle.sqs_model.specs.Giving.{all_got, all_left, all_received, all_released
 use Rattle.sim_clock.specs.Firsts.{kept_when}
 use Rattle.sqs_model.specs.Queue.{Queue, has_number, is_delayed, is_in_flight, is_visible, numbered, room, same_group, with_change}
 use Rattle.sqs_model.specs.Receive.{give, give_most, got_of, received, timeout_of, to_give}
+use Rattle.sqs_model.specs.Scenario.{Scenario}
 use Rattle.sqs_model.specs.Site.{Core, Effect, and_then, with_queue}
 use Rattle.sqs_model.proofs.Chosen.{Stand, first_apart, first_stand}
 use Rattle.sqs_model.proofs.Counts.{find_all}
@@ -24,7 +26,9 @@ use Rattle.sqs_model.proofs.Grouped.{all_groups}
 use Rattle.sqs_model.proofs.Numbered.{Apart}
 use Rattle.sqs_model.proofs.QueueAccounts.{same_timeout}
 use Rattle.sqs_model.proofs.SiteAccounts.{IsFound}
-use Rattle.sqs_laws.proofs.Calls.{AreThere, AreToldOf, Told, all_told, back_chain, back_got, other_changed, own_changed, received_chain, told_got, told_kept}
+use Rattle.sqs_laws.proofs.Calls.{AreNext, AreThere, AreToldOf, Told, all_told, back_chain, back_got, other_changed, own_changed, received_chain, told_got, told_kept}
+use Rattle.sqs_laws.proofs.Next.{all_next}
+use Rattle.sqs_laws.proofs.Turns.{available_turns}
 use Rattle.sqs_laws.proofs.Moves.{Chain, IsStocked, Keeps, chain_append, chain_keeps}
 
 -- what a receive tells of messages of a queue: each came there before
@@ -85,14 +89,15 @@ there_received : (now timeout n : ℕ) (ms : List Message) (q : Queue) → IsFou
 there_received now timeout n [] q h = h
 there_received now timeout n (m ∷ ms) q h = there_received now timeout n ms (with_change q m.number (received now timeout)) (there_changed q n m.number (received now timeout) (λ x. refl) h)
 
-module _ (key : Key) (c : Core) (agent : ℕ) (timeout : Option ℕ) where
+module _ (u : Scenario) (past : List Row) (key : Key) (c : Core) (agent : ℕ) (timeout : Option ℕ) where
   -- the rows of a receive
   pub record IsGiven (x : Queue × List Got) : Type 0 where
-    pub chain : Chain key c.queue (given key c agent timeout x).rows (given key c agent timeout x).core.queue
+    pub chain : Chain u past key c.queue (given key c agent timeout x).rows (given key c agent timeout x).core.queue
     pub actors : (given key c agent timeout x).core.actors ≡ c.actors
     pub known : AreKnown c.queue.site c.queue.arrivals x.1
 
-  module _ (ms : List Message) (apart : Apart ms) (stand : Stand c.queue ms) (visible : All (λ m. is_visible m ≡ true) ms) (few : length ms ≤ room c.queue) (stocked : IsStocked c.queue) where
+  module _ (ms : List Message) (apart : Apart ms) (stand : Stand c.queue ms) (visible : All (λ m. is_visible m ≡ true) ms) (few : length ms ≤ room c.queue) (stocked : IsStocked c.queue)
+      (next : (t : ℕ) (gots : List Got) → AreToldOf c.queue.site ms gots → AreNext key c agent t past ms gots c.queue) where
     known_of : (gots : List Got) → AreToldOf c.queue.site ms gots → AreKnown c.queue.site c.queue.arrivals gots
     known_of gots t =
         known_told c.queue.site c.queue.arrivals ms gots t
@@ -103,10 +108,10 @@ module _ (key : Key) (c : Core) (agent : ℕ) (timeout : Option ℕ) where
     given_kept b gots told t e =
         let q : Queue = all_received key.at t ms c.queue in
         let f : Effect = record { core = with_queue c q; rows = map (got_row key c agent) gots; sent = [] } in
-        let chain : Chain key c.queue f.rows q = received_chain key c agent t ms gots c.queue refl told apart stand visible few in
+        let chain : Chain u past key c.queue f.rows q = received_chain key u past c agent t ms gots c.queue refl told apart stand visible few (next t gots told) in
         let same : f ≡ given key c agent timeout (q, gots) = sym (ap (λ z. if z then and_then f (all_came_back key gots) else f) e) in
         record {
-          chain = subst (λ g. Chain key c.queue g.rows g.core.queue) same chain;
+          chain = subst (λ g. Chain u past key c.queue g.rows g.core.queue) same chain;
           actors = subst (λ (g : Effect). g.core.actors ≡ c.actors) same refl;
           known = known_of gots told;
         }
@@ -120,19 +125,20 @@ module _ (key : Key) (c : Core) (agent : ℕ) (timeout : Option ℕ) where
         let d : Core = with_queue c q in
         let f : Effect = record { core = d; rows = map (got_row key c agent) gots; sent = [] } in
         let told : AreToldOf c.queue.site ms gots = told_got c.queue taken ms in
-        let first : Chain key c.queue f.rows taken = received_chain key c agent 0 ms gots c.queue refl told apart stand visible few in
-        let kept : Keeps c.queue taken = chain_keeps key f.rows c.queue taken first stocked in
+        let first : Chain u past key c.queue f.rows taken = received_chain key u past c agent 0 ms gots c.queue refl told apart stand visible few (next 0 gots told) in
+        let behind : List Row = past ++ f.rows in
+        let kept : Keeps c.queue taken = chain_keeps u past key f.rows c.queue taken first stocked in
         let there : AreThere key taken ms = λ i l h. let m : Message = get_or ms i l in there_received key.at 0 m.number ms c.queue (subst IsFound (sym (stand i l h)) tt) in
-        let back : (e : Core) → e.queue.site ≡ taken.site → e.queue.settings ≡ taken.settings → Chain key taken (all_came_back key gots e).rows q = λ e s t. back_chain key ms gots taken e s t (back_got key c.queue taken ms) apart there in
-        let from_old : Keeps taken q = chain_keeps key (all_came_back key gots c).rows taken q (back c kept.site kept.settings) kept.stocked in
-        let second : Chain key taken (all_came_back key gots d).rows q = back d (sym from_old.site) (sym from_old.settings) in
+        let back : (e : Core) → e.queue.site ≡ taken.site → e.queue.settings ≡ taken.settings → Chain u behind key taken (all_came_back key gots e).rows q = λ e s t. back_chain key u behind ms gots taken e s t (back_got key c.queue taken ms) apart there in
+        let from_old : Keeps taken q = chain_keeps u behind key (all_came_back key gots c).rows taken q (back c kept.site kept.settings) kept.stocked in
+        let second : Chain u behind key taken (all_came_back key gots d).rows q = back d (sym from_old.site) (sym from_old.settings) in
         let after : Told key d (all_came_back key gots d).core = all_told key gots d in
         let whole : Effect = and_then f (all_came_back key gots) in
         let zero : (timeout_of q timeout == 0) ≡ true = ap (λ n. n == 0) (same_timeout c.queue q timeout (sym (kept.settings ∙ from_old.settings))) ∙ e in
         let same : whole ≡ given key c agent timeout (q, gots) = sym (ap (λ z. if z then whole else f) zero) in
-        let chain : Chain key c.queue whole.rows whole.core.queue = subst (Chain key c.queue whole.rows) (sym after.queue) (chain_append key f.rows (all_came_back key gots d).rows c.queue taken q first second) in
+        let chain : Chain u past key c.queue whole.rows whole.core.queue = subst (Chain u past key c.queue whole.rows) (sym after.queue) (chain_append u past key f.rows (all_came_back key gots d).rows c.queue taken q first second) in
         record {
-          chain = subst (λ g. Chain key c.queue g.rows g.core.queue) same chain;
+          chain = subst (λ g. Chain u past key c.queue g.rows g.core.queue) same chain;
           actors = subst (λ (g : Effect). g.core.actors ≡ c.actors) same after.actors;
           known = known_of gots told;
         }
@@ -146,8 +152,8 @@ module _ (key : Key) (c : Core) (agent : ℕ) (timeout : Option ℕ) where
         let gots : List Got = map (λ m. got_of c.queue m None) ms in
         let told : AreToldOf c.queue.site ms gots = told_kept c.queue ms in
         let more : 0 < t = grind (arith, eqb-false t 0 e) in
-        let chain : Chain key c.queue (map (got_row key c agent) gots) (all_received key.at t ms c.queue) = received_chain key c agent t ms gots c.queue refl told apart stand visible few in
-        let kept : Keeps c.queue (all_received key.at t ms c.queue) = chain_keeps key _ c.queue _ chain stocked in
+        let chain : Chain u past key c.queue (map (got_row key c agent) gots) (all_received key.at t ms c.queue) = received_chain key u past c agent t ms gots c.queue refl told apart stand visible few (next t gots told) in
+        let kept : Keeps c.queue (all_received key.at t ms c.queue) = chain_keeps u past key _ c.queue _ chain stocked in
         subst IsGiven (sym ((gives key.at c.queue).later t ms more))
         (given_kept false gots told t (ap (λ n. n == 0) (same_timeout c.queue (all_received key.at t ms c.queue) timeout (sym kept.settings)) ∙ e))
 
@@ -156,4 +162,5 @@ module _ (key : Key) (c : Core) (agent : ℕ) (timeout : Option ℕ) where
       let most : ℕ = min max (room c.queue) in
       give_by (to_give c.queue max set) (first_apart c.queue set most s.ordered) (first_stand c.queue set most s.ordered)
       (All-take (λ m. is_visible m ≡ true) most (available c.queue set) (visible_available c.queue.settings.kind set c.queue.records)) (omega (arith, length-take most (available c.queue set))) s
+      (λ t gots told. all_next key c agent t c.queue (to_give c.queue max set) gots past told (first_apart c.queue set most s.ordered) (first_stand c.queue set most s.ordered) (λ e. available_turns c.queue.settings.kind set most c.queue.records e s.ordered))
       (timeout_of c.queue timeout == 0) refl

@@ -1,5 +1,5 @@
 -- An actor holds only messages that it was told of, and serves no other.
-use Rattle.std.specs.Prelude.{Bool, List, None, Option, Some, [], drop, false, length, nat_lt, true, ℕ, ◌+◌, ◌++◌, ◌<◌, ◌∷◌, ◌≡◌, ◌≤◌}
+use Rattle.std.specs.Prelude.{Bool, List, None, Option, Some, [], drop, false, length, nat_lt, true, ℕ, ◌+◌, ◌++◌, ◌<◌, ◌==◌, ◌∷◌, ◌≡◌, ◌≤◌}
 use Rattle.std.proofs.Common.{arith, refl}
 use Rattle.sqs_message.specs.declared.calls.Call.{Call}
 use Rattle.sqs_message.specs.declared.calls.Call.TheVariants as calls
@@ -13,10 +13,13 @@ use Rattle.sqs_model.specs.declared.agents.ConsumerSettings.{ConsumerSettings}
 use Rattle.sqs_model.specs.declared.agents.Forwarding.{Forwarding}
 use Rattle.sqs_model.specs.declared.agents.ProducerSettings.{ProducerSettings}
 use Rattle.sqs_model.specs.declared.agents.Role.{Role}
-use Rattle.sqs_model.specs.declared.agents.Role.TheVariants.{Consumer, Producer, Script}
+use Rattle.sqs_model.specs.declared.acts.Standing.{Standing}
+use Rattle.sqs_model.specs.declared.agents.ScalerSettings.{ScalerSettings}
+use Rattle.sqs_model.specs.declared.agents.Scaling.{Scaling}
+use Rattle.sqs_model.specs.declared.agents.Role.TheVariants.{Consumer, Producer, Scaler, Script}
 use Rattle.sqs_model.specs.declared.agents.Serving.{Serving}
 use Rattle.sqs_model.specs.declared.agents.Serving.TheVariants.{Each, Once}
-use Rattle.sqs_model.specs.Actor.{Actor, Asked, Beat, Ended, Failed, Gathered, LastAct, Served, act_of, after_failure, begins_by, begins_next, consumer_told, consumer_wake, ends_by, ends_service, ends_well, ends_whole, gathers_on, goes_on, got_more, is_gathered, is_gathering, woken, has_come, has_failed, next, next_as, outcome, producer_sent, producer_wake, rest_after, rests, script_wake, served_all, serves, serves_on, service_of, serving, settles, has_forwarded, sent_one}
+use Rattle.sqs_model.specs.Actor.{Actor, Asked, Beat, Ended, Failed, Gathered, LastAct, Served, act_of, after_failure, begins_by, begins_next, changed_at, consumer_told, consumer_wake, copies_after, copies_by, copy_rests, copy_wake, ends_by, ends_service, ends_well, ends_whole, gathers_on, goes_on, got_more, has_nothing, is_gathered, is_gathering, is_parked, is_wanted, woken, has_come, has_failed, next, next_as, outcome, producer_sent, producer_wake, read_before, reads_or_scales, rest_after, rests, scales, script_wake, served_all, serves, serves_on, service_of, serving, settles, wanted_for, has_forwarded, sent_one}
 use Rattle.sqs_model.specs.Draw.{Draws, drawn_time}
 use Rattle.sqs_model.proofs.Branches.{either}
 use Rattle.sqs_redrive.specs.declared.settings.Latency.{Latency}
@@ -157,17 +160,38 @@ module _ (site arrivals : ℕ) where
     told_acts a c Ended h = serving_acts a c a.held h h.held
     told_acts a c Failed h = failed_acts a c a.failed h h.failed
     told_acts a c Beat h = record { informed = with_lists _ h.held h.done h.failed; serves = tt }
+    told_acts a c last h = idles a h
+
+    copy_rests_acts : (wanted : Bool) (s : Scaling) (a : Actor) (c : ConsumerSettings) (next : Option ℕ) → IsInformed a → Acts (copy_rests wanted s a c now next)
+    copy_rests_acts false s a c next h = record { informed = with_lists _ h.held h.done h.failed; serves = tt }
+    copy_rests_acts true s a c next h = either Acts (is_parked a.last_act) _ _ (record { informed = with_lists _ h.held h.done h.failed; serves = tt }) (wake_acts a c a.held h h.held)
+
+    copy_acts : (o : Option Scaling) (a : Actor) (c : ConsumerSettings) (st : Standing) → IsInformed a → Acts (copy_wake o a c now st)
+    copy_acts None a c st h = wake_acts a c a.held h h.held
+    copy_acts (Some s) a c st h = either Acts (has_nothing a) _ _ (copy_rests_acts (is_wanted s st.number a) s a c st.next h) (wake_acts a c a.held h h.held)
+
+    scales_acts : (a : Actor) (s : ScalerSettings) (copies changed to : ℕ) → IsInformed a → Acts (scales a s now copies changed to)
+    scales_acts a s copies changed to h =
+        either Acts (to == copies) _ _ (record { informed = with_lists _ h.held h.done h.failed; serves = tt }) (record { informed = with_lists _ h.held h.done h.failed; serves = tt })
+
+    scaler_acts : (o : Option ℕ) (a : Actor) (s : ScalerSettings) (copies changed visible : ℕ) → IsInformed a → Acts (reads_or_scales o a s now copies changed visible)
+    scaler_acts (Some before) a s copies changed visible h = scales_acts a s copies changed (copies_after s now copies changed (wanted_for s before)) h
+    scaler_acts None a s copies changed visible h =
+        either Acts (s.reading == 0) _ _ (scales_acts a s copies changed (copies_after s now copies changed (wanted_for s visible)) h)
+        (record { informed = with_lists _ h.held h.done h.failed; serves = tt })
 
     as_acts : (r : Role) (a : Actor) (w : Answer) → IsInformed a → HearsOfKnown w → Acts (next_as r a now w)
-    as_acts (Script script) a told_by.Wake h k = script_acts a (drop a.wakes script) h
+    as_acts (Script script) a (told_by.Wake st) h k = script_acts a (drop a.wakes script) h
     as_acts (Script script) a w h k = idles a h
-    as_acts (Producer p) a told_by.Wake h k = producer_acts a p h
+    as_acts (Producer p) a (told_by.Wake st) h k = producer_acts a p h
     as_acts (Producer p) a told_by.Other h k = sent_acts a p h
     as_acts (Producer p) a w h k = idles a h
-    as_acts (Consumer c) a told_by.Wake h k = wake_acts (woken a) c a.held (with_lists _ h.held h.done h.failed) h.held
+    as_acts (Consumer c) a (told_by.Wake st) h k = copy_acts c.scaling (woken a) c st (with_lists _ h.held h.done h.failed)
     as_acts (Consumer c) a (told_by.Got gots) h k = got_acts a.held a c gots h.held h k
     as_acts (Consumer c) a told_by.Waiting h k = idles a h
     as_acts (Consumer c) a told_by.Other h k = told_acts a c a.last_act h
+    as_acts (Scaler s) a (told_by.Wake st) h k = scaler_acts (read_before a.last_act) (woken a) s (copies_by s a.last_act) (changed_at a.last_act) st.number (with_lists _ h.held h.done h.failed)
+    as_acts (Scaler s) a w h k = idles a h
 
     pub next_acts : (a : Actor) (w : Answer) → IsInformed a → HearsOfKnown w → Acts (next a now w)
     unfolding next

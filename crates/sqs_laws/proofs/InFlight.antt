@@ -110,7 +110,7 @@ module _ (s : Scenario) (v : All IsQueueSettings s.queues) where
   pub flights_are_told : (x : Run) → IsRunOf s x → InFlight s x.rows
   flights_are_told x is =
       let each : EachRow x.rows IsAsTold =
-      every_row_by s told IsAsTold (λ rows key q r p d k h j. record { once = once_by rows key q r p d k h d.does; flies = flies_by rows key q r p d k h d.does; limit = limit_by rows key q r p d k h j }) x is in
+      every_row_by s told IsAsTold (λ rows key q r p d g k h j. record { once = once_by rows key q r p d k h d.does; flies = flies_by rows key q r p d k h d.does; limit = limit_by rows key q r p d k h j }) x is in
       record {
         once = λ before r after e m i t. (each before r after e).once m i t;
         flies = λ before r after e m i t. (each before r after e).flies m i t;

@@ -236,7 +236,7 @@ module _ (s : Scenario) where
       record {
         Holds = Says;
         Meets = Meets;
-        moves = λ rows key q r p by m k h. does_letters key rows q r p m.at_site k h m.does;
+        moves = λ rows key q r p by m g k h. does_letters key rows q r p m.at_site k h m.does;
         apart = says_apart;
         opens = λ n settings e. opens n settings v e;
       }

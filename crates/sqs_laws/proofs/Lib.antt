@@ -24,3 +24,10 @@ pub mod Journeys
 pub mod Told
 pub mod Ages
 pub mod Numbers
+pub mod Gives
+pub mod Turns
+pub mod Naming
+pub mod Next
+pub mod Sends
+pub mod Fifo
+pub mod Repeats

@@ -172,7 +172,7 @@ limits s =
     record {
       Holds = λ rows q. fly.Says rows q × Says rows q;
       Meets = λ rows r. Unit {0};
-      moves = λ rows key q r p by m k h. (tt, (fly.does_fly key rows q r p k h.0 m.does, moves_limit s rows key q r p m k h.0 h.1));
+      moves = λ rows key q r p by m g k h. (tt, (fly.does_fly key rows q r p k h.0 m.does, moves_limit s rows key q r p m k h.0 h.1));
       apart = λ rows r q d own h. ((fly.flights s).apart rows r q d own h.0, apart_limit rows r q d own h.1);
       opens = λ n settings e. (fly.opening n settings, opening s n settings);
     }

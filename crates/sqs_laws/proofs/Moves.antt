@@ -1,6 +1,8 @@
 -- What a row of a handling did to its queue.
-use Rattle.std.specs.Prelude.{All, Bool, Err, List, None, Ok, Option, Result, Some, [], false, true, ℕ, ◌+◌, ◌++◌, ◌<◌, ◌∷◌, ◌≡◌, ◌≤◌, ◌⊎◌, ◌-◌, ◌||◌}
-use Rattle.std.proofs.Common.{arith, refl, subst, sym, ◌∙◌}
+use Rattle.std.specs.Prelude.{All, Bool, Err, List, None, Ok, Option, Result, Some, [], false, true, ℕ, ◌+◌, ◌++◌, ◌<◌, ◌∷◌, ◌≡◌, ◌≤◌, ◌⊎◌, ◌-◌, ◌&&◌, ◌||◌}
+use Rattle.std.proofs.Common.{ap, arith, inl, inr, refl, subst, sym, true≢false, ◌∙◌}
+use Rattle.std.proofs.Math.Bool.{and-false}
+use Rattle.std.proofs.lemmas.List.{append-nil, append_assoc}
 use Rattle.std.proofs.lemmas.List.Elements.{All-push, All-weaker}
 use Rattle.sim_clock.specs.declared.key.Key.{Key}
 use Rattle.sim_clock.specs.declared.refusal.Refusal.{Refusal}
@@ -22,14 +24,24 @@ use Rattle.sqs_redrive.specs.declared.settings.Policy.{Policy}
 use Rattle.sqs_redrive.specs.declared.transfers.Load.{Load}
 use Rattle.sqs_redrive.specs.MoveTasks.{is_worn}
 use Rattle.sqs_model.specs.Accounts.{is_deleted, is_expired, origin_in}
-use Rattle.sqs_model.specs.Queue.{Entry, Queue, has_number, id_of, in_flight, is_in_flight, is_visible, numbered, taken_out, with_change}
+use Rattle.sqs_model.specs.Queue.{Entry, Queue, has_number, id_of, in_flight, is_in_flight, is_visible, numbered, same_group, taken_out, with_change}
 use Rattle.sqs_model.specs.Calls.{change, delete, in_flight_until, with_message}
+use Rattle.sqs_model.specs.Longest.{deduplication_interval}
 use Rattle.sqs_model.specs.Receive.{received}
+use Rattle.sqs_model.specs.Progress.{IsSoundRole}
 use Rattle.sqs_model.specs.Return.{leaves, visible_again}
+use Rattle.sqs_model.specs.Scenario.{Scenario}
 use Rattle.sqs_model.proofs.Counts.{all_changed, all_without, ascends_changed, ascends_push, ascends_without}
+use Rattle.sqs_model.proofs.Members.{In, of_all}
 use Rattle.sqs_model.proofs.Numbered.{Climbs}
 use Rattle.sqs_model.proofs.SiteAccounts.{IsFound}
+use Rattle.sqs_laws.specs.Groups.{GivesAs, IsByCall}
+use Rattle.sqs_laws.specs.Laws.{is_fifo}
 use Rattle.sqs_laws.specs.Words as words
+
+-- a deduplication entry of a queue, or a new one of the message that comes to it, which lives for 5 minutes
+abbrev pub IsEntered : Key → Queue → Entry → Type 0
+IsEntered key q e = In q.entries e ⊎ ((e.number ≡ q.arrivals) × (e.end ≡ key.at + deduplication_interval))
 
 -- what a row tells of a message: whether it comes, is received, is changed, is released or leaves
 pub record Tells (r : Row) (comes received changed released leaves : Bool) : Type 0 where
@@ -96,7 +108,7 @@ module _ (key : Key) (q : Queue) (r : Row) (p : Queue) where
     pub rests : is_in_flight one ≡ false
     pub told : origin_in r (Some (id_of q q.arrivals)) ≡ Some one.origin
     pub sent : words.is_send r.kind ≡ true → (one.enqueued ≡ key.at) × (one.source ≡ None)
-    pub old : All (λ e. e.number < q.arrivals + 1) entries
+    pub entered : All (IsEntered key q) entries
     pub after : with_message (record q { entries = entries }) one ≡ p
 
   -- a message of the queue that a row names
@@ -179,10 +191,38 @@ module _ (key : Key) (q : Queue) (r : Row) (p : Queue) where
     pub asked : Asks key q r r.kind
     pub does : Does
 
--- rows one after another
-abbrev pub Chain : Key → Queue → List Row → Queue → Type 0
-Chain key q [] p = q ≡ p
-Chain key q (r ∷ rs) p = (x : Queue) × Move key q r x × Chain key x rs p
+-- A message of a FIFO queue that is received after some rows: each of its group that came before it and is there is in
+-- flight by the same call, and none that came after it is in flight.
+pub record IsNext (past : List Row) (q : Queue) (r : Row) (n : ℕ) (one : Message) : Type 0 where
+  pub before : (i : ℕ) (m : Message) → numbered i q.records ≡ Some m → same_group one m ≡ true → i < n → IsByCall r (words.flight (id_of q i) past)
+  pub after : (i : ℕ) (m : Message) → numbered i q.records ≡ Some m → same_group one m ≡ true → n < i → is_in_flight m ≡ false
+
+-- a row that repeats a message of a FIFO queue, by a deduplication entry that lives
+pub record RepeatsEntry (q : Queue) (r : Row) : Type 0 where
+  pub fifo : is_fifo q.settings.kind ≡ true
+  pub entry : Entry
+  pub there : In q.entries entry
+  pub names : r.message ≡ Some (id_of q entry.number)
+  pub lives : r.key.at < entry.end
+
+-- what a row at a FIFO queue, after some rows, has to do with groups: what was sent has the group that was given, and what is
+-- received is the next of its group
+pub record IsOfGroup (s : Scenario) (past : List Row) (q : Queue) (r : Row) (p : Queue) : Type 0 where
+  pub given : (words.is_send r.kind && words.comes r) ≡ true → is_fifo q.settings.kind ≡ true → (m : Message) → numbered q.arrivals p.records ≡ Some m → All (λ a. IsSoundRole a.role) s.actors → (g : List ℕ) → GivesAs s r.agent r.key.at g → m.group ≡ Some g
+  pub next : words.received r ≡ true → is_fifo q.settings.kind ≡ true → (n : ℕ) (one : Message) → r.message ≡ Some (id_of q n) → numbered n q.records ≡ Some one → IsNext past q r n one
+  pub repeats : words.is_repeat r.answer ≡ true → RepeatsEntry q r
+
+-- a row by which nothing is sent and nothing received has nothing to do with them
+pub of_none : (s : Scenario) (past : List Row) (q : Queue) (r : Row) (p : Queue) → (words.is_send r.kind && words.comes r) ≡ false → words.received r ≡ false → words.is_repeat r.answer ≡ false → IsOfGroup s past q r p
+of_none s past q r p a b c = record { repeats = λ e. absurd (true≢false (sym e ∙ c)); given = λ e f m h k g i. absurd (true≢false (sym e ∙ a)); next = λ e f n one g h. absurd (true≢false (sym e ∙ b)) }
+
+pub tells_none : (s : Scenario) (past : List Row) (q : Queue) (r : Row) (p : Queue) (x y z : Bool) → Tells r false false x y z → words.is_repeat r.answer ≡ false → IsOfGroup s past q r p
+tells_none s past q r p x y z t n = of_none s past q r p (ap (λ b. words.is_send r.kind && b) t.comes_so ∙ and-false (words.is_send r.kind)) t.received_so n
+
+-- rows one after another, behind the rows of the run so far
+abbrev pub Chain : Scenario → List Row → Key → Queue → List Row → Queue → Type 0
+Chain s past key q [] p = q ≡ p
+Chain s past key q (r ∷ rs) p = (x : Queue) × Move key q r x × IsOfGroup s past q r x × Chain s (past ++ r ∷ []) key x rs p
 
 -- the messages of a queue are in the order of their numbers, and these and those of its entries were all given out
 pub record IsStocked (q : Queue) : Type 0 where
@@ -240,28 +280,34 @@ pushed_keeps q m entries e o s =
       };
     }
 
+all_old : (key : Key) (q : Queue) (entries : List Entry) → IsStocked q → All (IsEntered key q) entries → All (λ e. e.number < q.arrivals + 1) entries
+all_old key q entries s h =
+    All-weaker (IsEntered key q) (λ (e : Entry). e.number < q.arrivals + 1)
+    (λ e i. elim i as (λ _. e.number < q.arrivals + 1) [ inl k ↦ (let l : e.number < q.arrivals = of_all (λ (x : Entry). x.number < q.arrivals) q.entries e s.entries k in omega (arith, l)) | inr k ↦ omega (arith, k.0) ]) entries h
+
 pub does_keep : (key : Key) (q : Queue) (r : Row) (p : Queue) → Does key q r p → IsStocked q → Keeps q p
 does_keep key q r p (stays d) s = keeps_same q p d.same s
-does_keep key q r p (comes d) s = subst (Keeps q) d.after (pushed_keeps q d.one d.entries d.number d.old s)
+does_keep key q r p (comes d) s = subst (Keeps q) d.after (pushed_keeps q d.one d.entries d.number (all_old key q d.entries s d.entered) s)
 does_keep key q r p (receives d) s = subst (Keeps q) d.after (changed_keeps q d.number (received key.at d.timeout) (λ m. refl) s)
 does_keep key q r p (changes d) s = subst (Keeps q) d.after (changed_keeps q d.number (in_flight_until d.end) (λ m. refl) s)
 does_keep key q r p (releases d) s = subst (Keeps q) d.after (changed_keeps q d.number visible_again (λ m. refl) s)
 does_keep key q r p (redrives d) s = subst (Keeps q) d.after (taken_keeps q d.number s)
 does_keep key q r p (ends d) s = subst (Keeps q) d.after (taken_keeps q d.number s)
 
-pub chain_keeps : (key : Key) (rs : List Row) (q p : Queue) → Chain key q rs p → IsStocked q → Keeps q p
-chain_keeps key [] q p c s = keeps_same q p c s
-chain_keeps key (r ∷ rs) q p (x, m, c) s =
-    let one : Keeps q x = does_keep key q r x m.does s in
-    let rest : Keeps x p = chain_keeps key rs x p c one.stocked in
+pub chain_keeps : (s : Scenario) (past : List Row) (key : Key) (rs : List Row) (q p : Queue) → Chain s past key q rs p → IsStocked q → Keeps q p
+chain_keeps s past key [] q p c k = keeps_same q p c k
+chain_keeps s past key (r ∷ rs) q p (x, m, g, c) k =
+    let one : Keeps q x = does_keep key q r x m.does k in
+    let rest : Keeps x p = chain_keeps s (past ++ r ∷ []) key rs x p c one.stocked in
     record { site = one.site ∙ rest.site; settings = one.settings ∙ rest.settings; arrivals = omega (arith, one.arrivals, rest.arrivals); stocked = rest.stocked }
 
-pub chain_append : (key : Key) (rs ss : List Row) (q x p : Queue) → Chain key q rs x → Chain key x ss p → Chain key q (rs ++ ss) p
-chain_append key [] ss q x p c d = subst (λ y. Chain key y ss p) (sym c) d
-chain_append key (r ∷ rs) ss q x p (y, m, c) d = (y, m, chain_append key rs ss y x p c d)
+pub chain_append : (s : Scenario) (past : List Row) (key : Key) (rs ss : List Row) (q x p : Queue) → Chain s past key q rs x → Chain s (past ++ rs) key x ss p → Chain s past key q (rs ++ ss) p
+chain_append s past key [] ss q x p c d = subst (λ y. Chain s past key y ss p) (sym c) (subst (λ b. Chain s b key x ss p) (append-nil past) d)
+chain_append s past key (r ∷ rs) ss q x p (y, m, g, c) d =
+    (y, m, g, chain_append s (past ++ r ∷ []) key rs ss y x p c (subst (λ b. Chain s b key x ss p) (sym (append_assoc past (r ∷ []) rs)) d))
 
-pub one_move : (key : Key) (q : Queue) (r : Row) (p : Queue) → Move key q r p → Chain key q (r ∷ []) p
-one_move key q r p m = (p, m, refl)
+pub one_move : (s : Scenario) (past : List Row) (key : Key) (q : Queue) (r : Row) (p : Queue) → Move key q r p → IsOfGroup s past q r p → Chain s past key q (r ∷ []) p
+one_move s past key q r p m g = (p, m, g, refl)
 
 -- a row names a message of its own queue alone
 own_named : (q : Queue) (r : Row) (n : ℕ) (m : MessageId) → r.message ≡ Some (id_of q n) → r.message ≡ Some m → m.site ≡ q.site

@@ -102,7 +102,7 @@ origins s =
     record {
       Holds = Says;
       Meets = λ rows r. Unit {0};
-      moves = λ rows key q r p by m k h. (tt, does_tell key rows q r p k h m.does);
+      moves = λ rows key q r p by m g k h. (tt, does_tell key rows q r p k h m.does);
       apart = apart;
       opens = λ n settings e. opening n settings;
     }
@@ -110,5 +110,5 @@ origins s =
 -- the law
 pub origins_are_told : (s : Scenario) (x : Run) → IsRunOf s x → Origins x.rows
 origins_are_told s x is =
-    let each : EachRow x.rows IsAsTold = every_row_by s (origins s) IsAsTold (λ rows key q r p d k h j. told_by key rows q r p h d.does) x is in
+    let each : EachRow x.rows IsAsTold = every_row_by s (origins s) IsAsTold (λ rows key q r p d g k h j. told_by key rows q r p h d.does) x is in
     record { told = λ before r after e m i t. each before r after e m i t }

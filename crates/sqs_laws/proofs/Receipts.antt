@@ -352,7 +352,7 @@ module _ (s : Scenario) (v : All IsQueueSettings s.queues) where
   receipts_are_known x is =
       let each : EachRow x.rows IsAsTold =
       every_row_by s told IsAsTold
-      (λ rows key q r p d k h j.
+      (λ rows key q r p d g k h j.
       record {
         made = made_by rows key q r p d k h d.does;
         deletes = deletes_by rows key q r p d k h;

@@ -1,10 +1,10 @@
 -- The rows of each other call, and of what is due, are a chain of single moves.
 use Rattle.std.specs.Str.{bytes_eq}
 use Rattle.std.specs.Prelude.{All, Bool, Err, List, None, Ok, Option, Result, Some, [], false, get_or, if◌then◌else◌, length, nat_lt, take, true, ℕ, ◌&&◌, ◌*◌, ◌+◌, ◌++◌, ◌<◌, ◌==◌, ◌∷◌, ◌≡◌, ◌≢◌, ◌||◌, ◌-◌, ◌≤◌}
-use Rattle.std.proofs.Common.{ap, arith, inl, inr, refl, subst, sym, ◌∙◌}
-use Rattle.std.proofs.lemmas.Bool.{leb-true}
+use Rattle.std.proofs.Common.{ap, arith, inl, inr, refl, subst, sym, true≢false, ◌∙◌}
+use Rattle.std.proofs.lemmas.Bool.{and_parts, leb-true}
 use Rattle.std.proofs.lemmas.Bool.Decides.{nat_tests}
-use Rattle.std.proofs.lemmas.List.Elements.{All-filter, All-head, All-push, All-tail, All-take, All-weaker}
+use Rattle.std.proofs.lemmas.List.Elements.{All-filter, All-head, All-push, All-tail, All-take}
 use Rattle.sim_clock.specs.declared.key.Key.{Key}
 use Rattle.sim_clock.specs.declared.refusal.Refusal.{Refusal}
 use Rattle.sim_clock.specs.declared.refusal.Refusal.TheVariants as refusals
@@ -37,6 +37,7 @@ use Rattle.sqs_model.specs.Actor.{Actor}
 use Rattle.sqs_model.specs.Calls.{change, deduplication_id, delay_of, delete, in_flight_until, is_bad_delay, living, living_entries, new_message, returned, scope_of, send_unless, send_with, with_entry, with_message}
 use Rattle.sqs_model.specs.Queue.{Entry, Queue, has_number, id_of, is_in_flight, is_visible, numbered, same_text, taken_out, with_change, with_records}
 use Rattle.sqs_model.specs.Return.{leaves, redrive_of, released, released_found, released_when, visible_again}
+use Rattle.sqs_model.specs.Scenario.{Scenario}
 use Rattle.sqs_model.specs.Site.{Core, Effect, and_then, number_of, says, with_queue}
 use Rattle.sqs_model.specs.Arrive.{arrived, brought, enqueued_at, expired_found, forwarded, forwarded_group, is_too_old, sent_of, settled_when}
 use Rattle.sqs_model.specs.Step.{Moved, arrival_done, end_row, load_age, load_origin, handle_step, moves, one_sent, expiry_done, handle_expiry, release_done}
@@ -51,28 +52,33 @@ use Rattle.sqs_model.proofs.Numbered.{Apart, other_without}
 use Rattle.sqs_model.proofs.Answered.{change_by, delete_by}
 use Rattle.sqs_model.proofs.Branches.{either}
 use Rattle.sqs_model.proofs.CallWalk.{IsNameless, TellsOfNone}
-use Rattle.sqs_model.proofs.Counts.{changed_twice, find_all, without_changed}
+use Rattle.sqs_model.proofs.Counts.{changed_twice, find_all, find_picked, without_changed}
+use Rattle.sqs_model.proofs.Members.{all_in}
 use Rattle.sqs_model.proofs.SiteAccounts.{IsFound}
+use Rattle.sqs_laws.specs.Laws.{is_fifo}
 use Rattle.sqs_laws.specs.Words as words
 use Rattle.sqs_laws.proofs.Calls.{Told, back_told, found_old, one_back, own_changed, pushed_found, pushed_out, tells}
+use Rattle.sqs_laws.proofs.Gives.{Gives}
 use Rattle.sqs_laws.proofs.Giving.{visible_available}
-use Rattle.sqs_laws.proofs.Moves.{Asks, AsksChange, AsksDelete, Chain, IsNoReceipt, changed_answer, deleted_answer, chain_keeps, Does, IsStocked, Keeps, Move, Stays, Tells, changes, chain_append, comes, ends, one_move, stays}
+use Rattle.sqs_laws.proofs.Naming.{found_in}
+use Rattle.sqs_laws.proofs.Moves.{Asks, AsksChange, AsksDelete, Chain, IsEntered, IsNoReceipt, IsOfGroup, RepeatsEntry, changed_answer, deleted_answer, chain_keeps, Does, IsStocked, Keeps, Move, Stays, Tells, changes, chain_append, comes, ends, of_none, one_move, stays, tells_none}
 
 -- what a row of none tells
 abbrev SaysNothing : RowKind → RowAnswer → Type 0
 SaysNothing k a =
     (words.is_new a ≡ false) × ((words.is_receive k && words.is_ok a) ≡ false) × ((words.is_change k && words.is_ok a) ≡ false) × (words.is_release k ≡ false)
-    × ((is_deleted a || is_expired a || words.is_redrive k || words.is_move k) ≡ false)
+    × ((is_deleted a || is_expired a || words.is_redrive k || words.is_move k) ≡ false) × (words.is_repeat a ≡ false)
 
 says_nothing : (k : RowKind) (a : RowAnswer) → TellsOfNone k a → SaysNothing k a
-says_nothing kinds.Receive answers.Empty t = (refl, refl, refl, refl, refl)
-says_nothing kinds.Receive answers.Wait t = (refl, refl, refl, refl, refl)
-says_nothing kinds.Receive (answers.Refused x) t = (refl, refl, refl, refl, refl)
-says_nothing kinds.Start answers.Ok t = (refl, refl, refl, refl, refl)
-says_nothing kinds.Start (answers.Refused x) t = (refl, refl, refl, refl, refl)
-says_nothing kinds.Cancel answers.Ok t = (refl, refl, refl, refl, refl)
-says_nothing kinds.Cancel (answers.Refused x) t = (refl, refl, refl, refl, refl)
-says_nothing kinds.Sample answers.Ok t = (refl, refl, refl, refl, refl)
+says_nothing kinds.Receive answers.Empty t = (refl, refl, refl, refl, refl, refl)
+says_nothing kinds.Receive answers.Wait t = (refl, refl, refl, refl, refl, refl)
+says_nothing kinds.Receive (answers.Refused x) t = (refl, refl, refl, refl, refl, refl)
+says_nothing kinds.Start answers.Ok t = (refl, refl, refl, refl, refl, refl)
+says_nothing kinds.Start (answers.Refused x) t = (refl, refl, refl, refl, refl, refl)
+says_nothing kinds.Cancel answers.Ok t = (refl, refl, refl, refl, refl, refl)
+says_nothing kinds.Cancel (answers.Refused x) t = (refl, refl, refl, refl, refl, refl)
+says_nothing kinds.Scale answers.Ok t = (refl, refl, refl, refl, refl, refl)
+says_nothing kinds.Sample answers.Ok t = (refl, refl, refl, refl, refl, refl)
 says_nothing k a t = absurd t
 
 -- it asks nothing of a message
@@ -101,10 +107,14 @@ quiet_move key c q r e i =
       does = stays (nameless_stays key q r i.nameless (let n : SaysNothing r.kind r.answer = says_nothing r.kind r.answer i.kind in tells r false false false false false n.0 n.1 n.2 n.3 n.4));
     }
 
-module _ (key : Key) where
+pub nameless_none : (u : Scenario) (past : List Row) {key : Key} {c : Core} (q : Queue) (r : Row) → IsNameless key c r → IsOfGroup u past q r q
+nameless_none u past q r i =
+    let n : SaysNothing r.kind r.answer = says_nothing r.kind r.answer i.kind in tells_none u past q r q false false false (tells r false false false false false n.0 n.1 n.2 n.3 n.4) n.5
+
+module _ (u : Scenario) (past : List Row) (key : Key) where
   -- an effect whose rows are a chain from a site's queue, and which leaves its actors
   pub record IsChain (c : Core) (e : Effect) : Type 0 where
-    pub chain : Chain key c.queue e.rows e.core.queue
+    pub chain : Chain u past key c.queue e.rows e.core.queue
     pub actors : e.core.actors ≡ c.actors
 
   -- a row that names a message which came before, and changes nothing
@@ -118,80 +128,105 @@ module _ (key : Key) where
         gone = λ h i e. let s : id_of q n ≡ i = cc in subst (λ (x : MessageId). numbered x.number q.records ≡ None) s (g h);
       }
 
-  one_row : (c d : Core) (r : Row) → r.key ≡ key → r.queue ≡ c.queue.site → d.actors ≡ c.actors → Asks key c.queue r r.kind → Does key c.queue r d.queue → IsChain c (says d r)
-  one_row c d r k s a y h = record { chain = one_move key c.queue r d.queue (record { at_key = k; at_site = s; asked = y; does = h }); actors = a }
+  one_row : (c d : Core) (r : Row) → r.key ≡ key → r.queue ≡ c.queue.site → d.actors ≡ c.actors → Asks key c.queue r r.kind → Does key c.queue r d.queue → IsOfGroup u past c.queue r d.queue → IsChain c (says d r)
+  one_row c d r k s a y h g = record { chain = one_move u past key c.queue r d.queue (record { at_key = k; at_site = s; asked = y; does = h }) g; actors = a }
 
   -- services
-  forwards_chain : (a : Actor) (c : Core) (id : MessageId) (os : List Outbound) → id.site ≡ c.queue.site → id.number < c.queue.arrivals → IsChain c (forwards_made key a id os c)
-  forwards_chain a c id [] e l = record { chain = refl; actors = refl }
-  forwards_chain a c id (o ∷ os) e l =
-      let one : Chain key c.queue (forward_made key a id o c).rows c.queue =
-      one_move key c.queue _ c.queue
-          (record {
-            at_key = refl;
-            at_site = refl;
-            asked = tt;
-            does = stays (named_stays c.queue _ id.number (ap (λ s. Some (record { site = s; number = id.number })) e) (tells _ false false false false false refl refl refl refl refl) l (λ h. cc) (λ h. cc));
-          }) in
-      let rest = forwards_chain a c id os e l in
-      record {
-        chain = chain_append key (forward_made key a id o c).rows (forwards_made key a id os c).rows c.queue c.queue (forwards_made key a id os c).core.queue one rest.chain;
-        actors = rest.actors;
-      }
+  forwards_rows : (behind : List Row) (a : Actor) (c : Core) (id : MessageId) (os : List Outbound) → id.site ≡ c.queue.site → id.number < c.queue.arrivals → Chain u behind key c.queue (forwards_made key a id os c).rows (forwards_made key a id os c).core.queue
+  forwards_rows behind a c id [] e l = refl
+  forwards_rows behind a c id (o ∷ os) e l = (
+    c.queue,
+    record {
+      at_key = refl;
+      at_site = refl;
+      asked = tt;
+      does = stays (named_stays c.queue _ id.number (ap (λ s. Some (record { site = s; number = id.number })) e) (tells _ false false false false false refl refl refl refl refl) l (λ h. cc) (λ h. cc));
+    },
+    of_none u behind c.queue _ c.queue refl refl refl,
+    forwards_rows (behind ++ _ ∷ []) a c id os e l,
+  )
+
+  forwards_actors : (a : Actor) (c : Core) (id : MessageId) (os : List Outbound) → (forwards_made key a id os c).core.actors ≡ c.actors
+  forwards_actors a c id [] = refl
+  forwards_actors a c id (o ∷ os) = forwards_actors a c id os
 
   pub serve_chain : (a : Actor) (c : Core) (id : MessageId) (r : Receipt) (failed : Bool) (os : List Outbound) → id.site ≡ c.queue.site → id.number < c.queue.arrivals → IsChain c (serve_made key a c id r failed os).effect
   serve_chain a c id r true os e l =
-      one_row c c _ refl refl refl tt (stays (named_stays c.queue _ id.number (ap (λ s. Some (record { site = s; number = id.number })) e) (tells _ false false false false false refl refl refl refl refl) l (λ h. cc) (λ h. cc)))
-  serve_chain a c id r false os e l = forwards_chain a c id os e l
+      one_row c c _ refl refl refl tt (stays (named_stays c.queue _ id.number (ap (λ s. Some (record { site = s; number = id.number })) e) (tells _ false false false false false refl refl refl refl refl) l (λ h. cc) (λ h. cc))) (of_none u past c.queue _ _ refl refl refl)
+  serve_chain a c id r false os e l = record { chain = forwards_rows past a c id os e l; actors = forwards_actors a c id os }
 
   -- sends
   abbrev IsSent : Actor → Core → List ℕ → Result Sent Refusal × Queue → Type 0
   IsSent a c body x = IsChain c (send_made key a c body x).effect
 
+  -- a message that has the group which an actor gives, if its queue is a FIFO one
+  abbrev HasGroup : Actor → Core → Message → Type 0
+  HasGroup a c m = is_fifo c.queue.settings.kind ≡ true → Gives u key.at a m.group
+
   refused_sent : (a : Actor) (c : Core) (body : List ℕ) (e : Refusal) → IsSent a c body (Err e, c.queue)
-  refused_sent a c body e = one_row c c _ refl refl refl tt (stays (nameless_stays key c.queue _ refl (tells _ false false false false false refl refl refl refl refl)))
+  refused_sent a c body e = one_row c c _ refl refl refl tt (stays (nameless_stays key c.queue _ refl (tells _ false false false false false refl refl refl refl refl))) (of_none u past c.queue _ _ refl refl refl)
 
-  new_sent : (a : Actor) (c : Core) (body : List ℕ) (m : Message) (entries : List Entry) → m.number ≡ c.queue.arrivals → m.receives ≡ 0 → is_in_flight m ≡ false → record { site = c.queue.site; number = c.queue.arrivals } ≡ m.origin → (m.enqueued ≡ key.at) × (m.source ≡ None) → All (λ e. e.number < c.queue.arrivals + 1) entries → IsSent a c body (Ok (New (id_of c.queue c.queue.arrivals)), with_message (record c.queue { entries = entries }) m)
-  new_sent a c body m entries n f r g d o =
+  new_sent : (a : Actor) (c : Core) (body : List ℕ) (m : Message) (entries : List Entry) → IsStocked c.queue → HasGroup a c m → m.number ≡ c.queue.arrivals → m.receives ≡ 0 → is_in_flight m ≡ false → record { site = c.queue.site; number = c.queue.arrivals } ≡ m.origin → (m.enqueued ≡ key.at) × (m.source ≡ None) → All (IsEntered key c.queue) entries → IsSent a c body (Ok (New (id_of c.queue c.queue.arrivals)), with_message (record c.queue { entries = entries }) m)
+  new_sent a c body m entries k x n f r g d o =
       one_row c (with_queue c (with_message (record c.queue { entries = entries }) m)) _ refl refl refl tt
-      (comes (record { one = m; entries = entries; tells = tells _ true false false false false refl refl refl refl refl; message = refl; number = n; fresh = f; rests = r; told = ap (λ x. Some x) g; sent = λ _. d; old = o; after = refl }))
+      (comes (record { one = m; entries = entries; tells = tells _ true false false false false refl refl refl refl refl; message = refl; number = n; fresh = f; rests = r; told = ap (λ x. Some x) g; sent = λ _. d; entered = o; after = refl }))
+      (record {
+        given = λ e y one i s g h.
+            let is : m ≡ one = let found : Some m ≡ Some one = sym (pushed_found c.queue.arrivals c.queue.records m n k.given_out) ∙ i in cc in
+            ap (λ (z : Message). z.group) (sym is) ∙ x y s g h;
+        next = λ e. cc;
+        repeats = λ e. cc;
+      })
 
-  repeat_sent : (a : Actor) (c : Core) (body : List ℕ) (n : ℕ) → n < c.queue.arrivals → IsSent a c body (Ok (Repeat (id_of c.queue n)), c.queue)
-  repeat_sent a c body n l = one_row c c _ refl refl refl tt (stays (named_stays c.queue _ n refl (tells _ false false false false false refl refl refl refl refl) l (λ h. cc) (λ h. cc)))
+  -- a row that repeats a message by an entry that lives
+  repeats_by : (q : Queue) (r : Row) (scope : Option (List ℕ)) (id : List ℕ) (e : Entry) → is_fifo q.settings.kind ≡ true → living q key.at scope id ≡ Some e → r.key ≡ key → r.message ≡ Some (id_of q e.number) → RepeatsEntry q r
+  repeats_by q r scope id e y f k m =
+      let test : Entry → Bool = λ x. nat_lt key.at x.end && same_text x.scope scope && bytes_eq x.id id in
+      let picked : test e ≡ true = find_picked test q.entries e f in
+      let lives : nat_lt key.at e.end ≡ true = (and_parts (nat_lt key.at e.end) (same_text e.scope scope) (and_parts (nat_lt key.at e.end && same_text e.scope scope) (bytes_eq e.id id) picked).0).0 in
+      let now : r.key.at ≡ key.at = ap (λ (x : Key). x.at) k in
+      record { fifo = y; entry = e; there = found_in test q.entries e f; names = m; lives = let l : key.at < e.end = grind (arith, nat_tests, lives) in omega (arith, l, now) }
+
+  named_by : (c : Core) (scope : Option (List ℕ)) (id : List ℕ) (e : Entry) → IsStocked c.queue → living c.queue key.at scope id ≡ Some e → e.number < c.queue.arrivals
+  named_by c scope id e s f = find_all (λ (x : Entry). nat_lt key.at x.end && same_text x.scope scope && bytes_eq x.id id) (λ x. x.number < c.queue.arrivals) c.queue.entries e s.entries f
+
+  repeat_sent : (a : Actor) (c : Core) (body : List ℕ) (scope : Option (List ℕ)) (id : List ℕ) (e : Entry) → is_fifo c.queue.settings.kind ≡ true → IsStocked c.queue → living c.queue key.at scope id ≡ Some e → IsSent a c body (Ok (Repeat (id_of c.queue e.number)), c.queue)
+  repeat_sent a c body scope id e y s f =
+      one_row c c _ refl refl refl tt (stays (named_stays c.queue _ e.number refl (tells _ false false false false false refl refl refl refl refl) (named_by c scope id e s f) (λ h. cc) (λ h. cc)))
+      (record { given = λ t. cc; next = λ t. cc; repeats = λ t. repeats_by c.queue _ scope id e y f refl refl })
 
   -- a message that is not in flight as it comes
   rests_at : (q : Queue) (body : List ℕ) (group : Option (List ℕ)) (delay : ℕ) → is_in_flight (new_message q key.at body group delay) ≡ false
   rests_at q body group delay = either (λ (p : Place). elim p as (λ _. Bool) [ places.Delayed ↦ false | places.Visible ↦ false | places.InFlight ↦ true ] ≡ false) (delay == 0) places.Visible places.Delayed refl refl
 
-  old_entries : (q : Queue) → IsStocked q → All (λ e. e.number < q.arrivals + 1) q.entries
-  old_entries q s = All-weaker (λ e. e.number < q.arrivals) (λ e. e.number < q.arrivals + 1) (λ e l. omega (arith, l)) q.entries s.entries
+  old_entries : (q : Queue) → All (IsEntered key q) q.entries
+  old_entries q = all_in (IsEntered key q) q.entries (λ e i. inl i)
 
-  more_entries : (q : Queue) (scope : Option (List ℕ)) (id : List ℕ) → IsStocked q → All (λ e. e.number < q.arrivals + 1) (with_entry q key.at scope id).entries
-  more_entries q scope id s =
-      All-push (λ e. e.number < q.arrivals + 1) (living_entries key.at q.entries) _
-      (All-filter (λ e. nat_lt key.at e.end) (λ (e : Entry). e.number < q.arrivals + 1) q.entries (old_entries q s)) (omega arith)
+  more_entries : (q : Queue) (scope : Option (List ℕ)) (id : List ℕ) → All (IsEntered key q) (with_entry q key.at scope id).entries
+  more_entries q scope id =
+      All-push (IsEntered key q) (living_entries key.at q.entries) _
+      (All-filter (λ e. nat_lt key.at e.end) (IsEntered key q) q.entries (old_entries q)) (inr (refl, refl))
 
-  unless_sent : (a : Actor) (c : Core) (body given group : List ℕ) (scope : Option (List ℕ)) (id : List ℕ) (o : Option Entry) → living c.queue key.at scope id ≡ o → IsStocked c.queue → IsSent a c given (send_unless c.queue key.at body group scope id o)
-  unless_sent a c body given group scope id None f s =
-      new_sent a c given (new_message c.queue key.at body (Some group) c.queue.settings.delay) (with_entry c.queue key.at scope id).entries refl refl (rests_at c.queue body (Some group) c.queue.settings.delay) refl (refl, refl) (more_entries c.queue scope id s)
-  unless_sent a c body given group scope id (Some e) f s =
-      repeat_sent a c given e.number (find_all (λ (x : Entry). nat_lt key.at x.end && same_text x.scope scope && bytes_eq x.id id) (λ x. x.number < c.queue.arrivals) c.queue.entries e s.entries f)
+  unless_sent : (a : Actor) (c : Core) (body given group : List ℕ) (scope : Option (List ℕ)) (id : List ℕ) (o : Option Entry) → is_fifo c.queue.settings.kind ≡ true → Gives u key.at a (Some group) → living c.queue key.at scope id ≡ o → IsStocked c.queue → IsSent a c given (send_unless c.queue key.at body group scope id o)
+  unless_sent a c body given group scope id None y x f s =
+      new_sent a c given (new_message c.queue key.at body (Some group) c.queue.settings.delay) (with_entry c.queue key.at scope id).entries s (λ z. x) refl refl (rests_at c.queue body (Some group) c.queue.settings.delay) refl (refl, refl) (more_entries c.queue scope id)
+  unless_sent a c body given group scope id (Some e) y x f s = repeat_sent a c given scope id e y s f
 
-  with_sent : (a : Actor) (c : Core) (scope : Scope) (body : List ℕ) (group id : Option (List ℕ)) → IsStocked c.queue → IsSent a c body (send_with c.queue scope key.at body group id)
-  with_sent a c scope body None id s = refused_sent a c body refusals.MissingGroup
-  with_sent a c scope body (Some g) None s = refused_sent a c body refusals.MissingDeduplication
-  with_sent a c scope body (Some g) (Some i) s = unless_sent a c body body g (scope_of scope g) i (living c.queue key.at (scope_of scope g) i) refl s
+  with_sent : (a : Actor) (c : Core) (scope : Scope) (body : List ℕ) (group id : Option (List ℕ)) → is_fifo c.queue.settings.kind ≡ true → Gives u key.at a group → IsStocked c.queue → IsSent a c body (send_with c.queue scope key.at body group id)
+  with_sent a c scope body None id y x s = refused_sent a c body refusals.MissingGroup
+  with_sent a c scope body (Some g) None y x s = refused_sent a c body refusals.MissingDeduplication
+  with_sent a c scope body (Some g) (Some i) y x s = unless_sent a c body body g (scope_of scope g) i (living c.queue key.at (scope_of scope g) i) y x refl s
 
-  pub sends_chain : (k : Kind) (a : Actor) (c : Core) (body : List ℕ) (delay : Option ℕ) (group id : Option (List ℕ)) → IsStocked c.queue → IsSent a c body (sends k c.queue key.at body delay group id)
-  sends_chain (Standard hosts sampled) a c body delay group id s =
+  pub sends_chain : (k : Kind) (a : Actor) (c : Core) (body : List ℕ) (delay : Option ℕ) (group id : Option (List ℕ)) → c.queue.settings.kind ≡ k → Gives u key.at a group → IsStocked c.queue → IsSent a c body (sends k c.queue key.at body delay group id)
+  sends_chain (Standard hosts sampled) a c body delay group id y x s =
       either (IsSent a c body) (is_bad_delay 900 delay) _ _ (refused_sent a c body refusals.BadDelay)
-      (new_sent a c body (new_message c.queue key.at body None (delay_of c.queue delay)) c.queue.entries refl refl (rests_at c.queue body None (delay_of c.queue delay)) refl (refl, refl) (old_entries c.queue s))
-  sends_chain (Fifo content scope) a c body delay group id s =
-      either (IsSent a c body) (is_bad_delay 0 delay) _ _ (refused_sent a c body refusals.BadDelay) (with_sent a c scope body group (deduplication_id content body id) s)
+      (new_sent a c body (new_message c.queue key.at body None (delay_of c.queue delay)) c.queue.entries s (λ z. absurd (true≢false (sym z ∙ ap is_fifo y))) refl refl (rests_at c.queue body None (delay_of c.queue delay)) refl (refl, refl) (old_entries c.queue))
+  sends_chain (Fifo content scope) a c body delay group id y x s =
+      either (IsSent a c body) (is_bad_delay 0 delay) _ _ (refused_sent a c body refusals.BadDelay) (with_sent a c scope body group (deduplication_id content body id) (ap is_fifo y) x s)
 
   -- deletes
-  refused_row : (c : Core) (r : Row) → r.key ≡ key → r.queue ≡ c.queue.site → r.message ≡ None → Asks key c.queue r r.kind → Tells r false false false false false → IsChain c (says c r)
-  refused_row c r k s n y t = one_row c c r k s refl y (stays (nameless_stays key c.queue r n t))
+  refused_row : (c : Core) (r : Row) → r.key ≡ key → r.queue ≡ c.queue.site → r.message ≡ None → Asks key c.queue r r.kind → Tells r false false false false false → words.is_repeat r.answer ≡ false → IsChain c (says c r)
+  refused_row c r k s n y t w = one_row c c r k s refl y (stays (nameless_stays key c.queue r n t)) (tells_none u past c.queue r c.queue false false false t w)
 
   module _ (a : Actor) (c : Core) (text : List ℕ) (r : Receipt) (read : read_receipt text ≡ Some r) (s : IsStocked c.queue) where
     -- of the answer that the delete has
@@ -211,21 +246,22 @@ module _ (key : Key) where
     deleted_chain =
         delete_by IsDeleted c.queue key.at r
         (record {
-          refused = λ e. refused_row c _ refl refl refl (asks_delete _ _ refl refl e) (tells _ false false false false false refl refl refl refl refl);
+          refused = λ e. refused_row c _ refl refl refl (asks_delete _ _ refl refl e) (tells _ false false false false false refl refl refl refl refl) refl;
           gone = λ f l e.
               one_row c c _ refl refl refl (asks_delete _ _ refl refl e)
-              (stays (named_stays c.queue _ r.number refl (tells _ false false false false false refl refl refl refl refl) (grind (arith, nat_tests, l)) (λ h. cc) (λ h. f)));
+              (stays (named_stays c.queue _ r.number refl (tells _ false false false false false refl refl refl refl refl) (grind (arith, nat_tests, l)) (λ h. cc) (λ h. f))) (of_none u past c.queue _ _ refl refl refl);
           kept = λ m f e.
               one_row c c _ refl refl refl (asks_delete _ _ refl refl e)
-              (stays (named_stays c.queue _ r.number refl (tells _ false false false false false refl refl refl refl refl) (found_old c.queue r.number m s f) (λ h. subst IsFound (sym f) tt) (λ h. cc)));
+              (stays (named_stays c.queue _ r.number refl (tells _ false false false false false refl refl refl refl refl) (found_old c.queue r.number m s f) (λ h. subst IsFound (sym f) tt) (λ h. cc))) (of_none u past c.queue _ _ refl refl refl);
           taken = λ m f e.
               one_row c (with_queue c (taken_out c.queue r.number)) _ refl refl refl (asks_delete _ _ refl refl e)
-              (ends (record { one = m; number = r.number; tells = tells _ false false false false true refl refl refl refl refl; names = record { there = f; message = refl; sure = refl }; kind = refl; rested = λ e. cc; age = λ n t. refl; due = λ n t. cc; after = refl }));
+              (ends (record { one = m; number = r.number; tells = tells _ false false false false true refl refl refl refl refl; names = record { there = f; message = refl; sure = refl }; kind = refl; rested = λ e. cc; age = λ n t. refl; due = λ n t. cc; after = refl }))
+              (of_none u past c.queue _ _ refl refl refl);
         }) c.queue.settings.kind
 
   delete_chain_of : (a : Actor) (c : Core) (text : List ℕ) (o : Option Receipt) → read_receipt text ≡ o → IsStocked c.queue → IsChain c (delete_made key a c text o).effect
   delete_chain_of a c text None e s =
-      refused_row c _ refl refl refl (record { text = text; given = refl; by = λ y f. cc; none = λ f. refl }) (tells _ false false false false false refl refl refl refl refl)
+      refused_row c _ refl refl refl (record { text = text; given = refl; by = λ y f. cc; none = λ f. refl }) (tells _ false false false false false refl refl refl refl refl) refl
   delete_chain_of a c text (Some r) e s = deleted_chain a c text r e s refl
 
   pub delete_chain : (a : Actor) (c : Core) (text : List ℕ) → IsStocked c.queue → IsChain c (delete_made key a c text (read_receipt text)).effect
@@ -276,7 +312,7 @@ module _ (key : Key) where
         let row : Row = change_row key a c text answers.Ok (Some (id_of c.queue r.number)) (details.Timeout timeout) in
         let one : Effect = says (with_queue c q) row in
         let both : Effect = and_then one (λ d. came_back key d r.number None) in
-        subst (IsChain c) (sym (ap (λ b. if b then both else one) e)) (record { chain = one_move key c.queue row q (change_move m (key.at + 1000 * timeout) (asks_change _ row refl refl x) f l); actors = refl })
+        subst (IsChain c) (sym (ap (λ b. if b then both else one) e)) (record { chain = one_move u past key c.queue row q (change_move m (key.at + 1000 * timeout) (asks_change _ row refl refl x) f l) (of_none u past c.queue row q refl refl refl); actors = refl })
 
     back_change : (m : Message) → numbered r.number c.queue.records ≡ Some m → is_in_flight m ≡ true → (timeout == 0) ≡ true → IsChanged (returned (released c.queue r.number))
     back_change m f l e w =
@@ -284,23 +320,24 @@ module _ (key : Key) where
         let x : Queue × Option Load = released c.queue n in
         let taken : Queue = with_change c.queue n (in_flight_until key.at) in
         let row : Row = change_row key a c text answers.Ok (Some (id_of c.queue n)) (details.Timeout timeout) in
+        let behind : List Row = past ++ row ∷ [] in
         let d : Core = with_queue c x.0 in
         let one : Effect = says d row in
         let both : Effect = and_then one (λ d. came_back key d n x.1) in
         let same : released taken n ≡ x = released_changed c.queue n key.at m f in
-        let back : (e : Core) → e.queue.site ≡ c.queue.site → e.queue.settings ≡ c.queue.settings → Chain key taken (came_back key e n x.1).rows x.0 =
-        λ e i j. subst (λ (y : Queue × Option Load). Chain key taken (came_back key e n y.1).rows y.0) same (one_back key taken e n (in_flight_until key.at m) i j (own_changed n (in_flight_until key.at) (λ x. refl) c.queue.records m f)) in
-        let first : Chain key c.queue (row ∷ []) taken = one_move key c.queue row taken (change_move m key.at (asks_change _ row refl refl w) f l) in
-        let kept : Keeps c.queue x.0 = chain_keeps key (row ∷ [] ++ (came_back key c n x.1).rows) c.queue x.0 (chain_append key (row ∷ []) (came_back key c n x.1).rows c.queue taken x.0 first (back c refl refl)) s in
+        let back : (e : Core) → e.queue.site ≡ c.queue.site → e.queue.settings ≡ c.queue.settings → Chain u behind key taken (came_back key e n x.1).rows x.0 =
+        λ e i j. subst (λ (y : Queue × Option Load). Chain u behind key taken (came_back key e n y.1).rows y.0) same (one_back key u behind taken e n (in_flight_until key.at m) i j (own_changed n (in_flight_until key.at) (λ x. refl) c.queue.records m f)) in
+        let first : Chain u past key c.queue (row ∷ []) taken = one_move u past key c.queue row taken (change_move m key.at (asks_change _ row refl refl w) f l) (of_none u past c.queue row taken refl refl refl) in
+        let kept : Keeps c.queue x.0 = chain_keeps u past key (row ∷ [] ++ (came_back key c n x.1).rows) c.queue x.0 (chain_append u past key (row ∷ []) (came_back key c n x.1).rows c.queue taken x.0 first (back c refl refl)) s in
         let after : Told key d (came_back key d n x.1).core = back_told key d n x.1 in
-        let chain : Chain key c.queue both.rows x.0 = chain_append key (row ∷ []) (came_back key d n x.1).rows c.queue taken x.0 first (back d (sym kept.site) (sym kept.settings)) in
-        subst (IsChain c) (sym (ap (λ b. if b then both else one) e)) (record { chain = subst (Chain key c.queue both.rows) (sym after.queue) chain; actors = after.actors })
+        let chain : Chain u past key c.queue both.rows x.0 = chain_append u past key (row ∷ []) (came_back key d n x.1).rows c.queue taken x.0 first (back d (sym kept.site) (sym kept.settings)) in
+        subst (IsChain c) (sym (ap (λ b. if b then both else one) e)) (record { chain = subst (Chain u past key c.queue both.rows) (sym after.queue) chain; actors = after.actors })
 
     changed_chain : IsChanged (change c.queue key.at r timeout)
     changed_chain =
         change_by IsChanged c.queue key.at r timeout
         (record {
-          refused = λ e w. refused_row c _ refl refl refl (asks_change _ _ refl refl w) (tells _ false false false false false refl refl refl refl refl);
+          refused = λ e w. refused_row c _ refl refl refl (asks_change _ _ refl refl w) (tells _ false false false false false refl refl refl refl refl) refl;
           back = λ m f l e w. back_change m f l e w;
           kept = λ m f l e w. kept_change m f l e w;
         })
@@ -311,7 +348,7 @@ module _ (key : Key) where
 
   change_chain_of : (a : Actor) (c : Core) (text : List ℕ) (timeout : ℕ) (o : Option Receipt) → read_receipt text ≡ o → IsStocked c.queue → IsChain c (change_made key a c text timeout o).effect
   change_chain_of a c text timeout None e s =
-      refused_row c _ refl refl refl (record { text = text; given = refl; timeout = timeout; by = λ y f. cc; none = λ f. no_receipt (nat_lt 43200 timeout) }) (tells _ false false false false false refl refl refl refl refl)
+      refused_row c _ refl refl refl (record { text = text; given = refl; timeout = timeout; by = λ y f. cc; none = λ f. no_receipt (nat_lt 43200 timeout) }) (tells _ false false false false false refl refl refl refl refl) refl
   change_chain_of a c text timeout (Some r) e s = changed_chain a c text timeout r e s refl
 
   pub change_chain : (a : Actor) (c : Core) (text : List ℕ) (timeout : ℕ) → IsStocked c.queue → IsChain c (change_made key a c text timeout (read_receipt text)).effect
@@ -322,18 +359,19 @@ module _ (key : Key) where
   expiry_chain c m f l =
       subst (λ x. IsChain c (expiry_done key c (expired_found c.queue key.at key.number x))) (sym f)
       (one_row c (with_queue c (taken_out c.queue key.number)) _ refl refl refl tt
-      (ends (record { one = m; number = key.number; tells = tells _ false false false false true refl refl refl refl refl; names = record { there = f; message = refl; sure = refl }; kind = refl; rested = λ e. cc; age = λ n t. refl; due = λ n t. l; after = refl })))
+      (ends (record { one = m; number = key.number; tells = tells _ false false false false true refl refl refl refl refl; names = record { there = f; message = refl; sure = refl }; kind = refl; rested = λ e. cc; age = λ n t. refl; due = λ n t. l; after = refl }))
+      (of_none u past c.queue _ _ refl refl refl))
 
   pub release_chain : (c : Core) (m : Message) → IsStocked c.queue → numbered key.number c.queue.records ≡ Some m → IsChain c (release_done key c (released c.queue key.number))
   release_chain c m s f =
       let n : ℕ = key.number in
       let x : Queue × Option Load = released c.queue n in
       let d : Core = with_queue c x.0 in
-      let old : Chain key c.queue (came_back key c n x.1).rows x.0 = one_back key c.queue c n m refl refl f in
-      let kept : Keeps c.queue x.0 = chain_keeps key (came_back key c n x.1).rows c.queue x.0 old s in
+      let old : Chain u past key c.queue (came_back key c n x.1).rows x.0 = one_back key u past c.queue c n m refl refl f in
+      let kept : Keeps c.queue x.0 = chain_keeps u past key (came_back key c n x.1).rows c.queue x.0 old s in
       let after : Told key d (came_back key d n x.1).core = back_told key d n x.1 in
       record {
-        chain = subst (Chain key c.queue (came_back key d n x.1).rows) (sym after.queue) (one_back key c.queue d n m (sym kept.site) (sym kept.settings) f);
+        chain = subst (Chain u past key c.queue (came_back key d n x.1).rows) (sym after.queue) (one_back key u past c.queue d n m (sym kept.site) (sym kept.settings) f);
         actors = after.actors;
       }
 
@@ -341,12 +379,12 @@ module _ (key : Key) where
   abbrev IsArrived : Core → Load → (Sent × Bool) × Queue → Type 0
   IsArrived c load x = IsChain c (arrival_done key load c x)
 
-  come_move : (c : Core) (r : Row) (m : Message) (entries : List Entry) → r.key ≡ key → r.queue ≡ c.queue.site → r.message ≡ Some (id_of c.queue c.queue.arrivals) → Asks key c.queue r r.kind → Tells r true false false false false → m.number ≡ c.queue.arrivals → m.receives ≡ 0 → is_in_flight m ≡ false → origin_in r (Some (id_of c.queue c.queue.arrivals)) ≡ Some m.origin → words.is_send r.kind ≡ false → All (λ e. e.number < c.queue.arrivals + 1) entries → Move key c.queue r (with_message (record c.queue { entries = entries }) m)
-  come_move c r m entries k s i y t n f l g d o = record { at_key = k; at_site = s; asked = y; does = comes (record { one = m; entries = entries; tells = t; message = i; number = n; fresh = f; rests = l; told = g; sent = λ t. cc; old = o; after = refl }) }
+  come_move : (c : Core) (r : Row) (m : Message) (entries : List Entry) → r.key ≡ key → r.queue ≡ c.queue.site → r.message ≡ Some (id_of c.queue c.queue.arrivals) → Asks key c.queue r r.kind → Tells r true false false false false → m.number ≡ c.queue.arrivals → m.receives ≡ 0 → is_in_flight m ≡ false → origin_in r (Some (id_of c.queue c.queue.arrivals)) ≡ Some m.origin → words.is_send r.kind ≡ false → All (IsEntered key c.queue) entries → Move key c.queue r (with_message (record c.queue { entries = entries }) m)
+  come_move c r m entries k s i y t n f l g d o = record { at_key = k; at_site = s; asked = y; does = comes (record { one = m; entries = entries; tells = t; message = i; number = n; fresh = f; rests = l; told = g; sent = λ t. cc; entered = o; after = refl }) }
 
   settled_chain : (b : Bool) (c : Core) (load : Load) (m : Message) → m.number ≡ c.queue.arrivals → m.receives ≡ 0 → is_in_flight m ≡ false → load_origin load (id_of c.queue c.queue.arrivals) ≡ m.origin → (m.source ≡ None → load_age load key.at ≡ key.at - m.enqueued) → (m.source ≡ None → b ≡ true → key.at ≡ m.enqueued + c.queue.settings.retention) → IsStocked c.queue → IsArrived c load (settled_when b c.queue m)
   settled_chain false c load m n f l g d w s =
-      record { chain = one_move key c.queue _ _ (come_move c _ m c.queue.entries refl refl refl tt (tells _ true false false false false refl refl refl refl refl) n f l (ap (λ x. Some x) g) refl (old_entries c.queue s)); actors = refl }
+      record { chain = one_move u past key c.queue _ _ (come_move c _ m c.queue.entries refl refl refl tt (tells _ true false false false false refl refl refl refl refl) n f l (ap (λ x. Some x) g) refl (old_entries c.queue)) (of_none u past c.queue _ _ refl refl refl); actors = refl }
   settled_chain true c load m n f l g d w s =
       let q : Queue = c.queue in
       let x : Queue = with_message q m in
@@ -354,38 +392,38 @@ module _ (key : Key) where
       record {
         chain = (
           x,
-          come_move c _ m q.entries refl refl refl tt (tells _ true false false false false refl refl refl refl refl) n f l (ap (λ x. Some x) g) refl (old_entries q s),
-          one_move key x _ (record q { arrivals = q.arrivals + 1 })
+          come_move c _ m q.entries refl refl refl tt (tells _ true false false false false refl refl refl refl refl) n f l (ap (λ x. Some x) g) refl (old_entries q),
+          of_none u past q _ _ refl refl refl,
+          one_move u (past ++ _ ∷ []) key x _ (record q { arrivals = q.arrivals + 1 })
               (record {
                 at_key = refl;
                 at_site = refl;
                 asked = tt;
                 does = ends (record { one = m; number = q.arrivals; tells = tells _ false false false false true refl refl refl refl refl; names = record { there = pushed_found q.arrivals q.records m n s.given_out; message = refl; sure = refl }; kind = refl; rested = λ e. cc; age = λ y t. ap details.Age (d y); due = λ y t. w y refl; after = gone });
-              }),
+              }) (of_none u _ x _ _ refl refl refl),
         );
         actors = refl;
       }
 
-  new_come : (c : Core) (id : MessageId) (group : Option (List ℕ)) (body : List ℕ) (m : Message) (entries : List Entry) → m.number ≡ c.queue.arrivals → m.receives ≡ 0 → is_in_flight m ≡ false → record { site = c.queue.site; number = c.queue.arrivals } ≡ m.origin → All (λ e. e.number < c.queue.arrivals + 1) entries → IsArrived c (Forward id group body) ((New (id_of c.queue c.queue.arrivals), false), with_message (record c.queue { entries = entries }) m)
+  new_come : (c : Core) (id : MessageId) (group : Option (List ℕ)) (body : List ℕ) (m : Message) (entries : List Entry) → m.number ≡ c.queue.arrivals → m.receives ≡ 0 → is_in_flight m ≡ false → record { site = c.queue.site; number = c.queue.arrivals } ≡ m.origin → All (IsEntered key c.queue) entries → IsArrived c (Forward id group body) ((New (id_of c.queue c.queue.arrivals), false), with_message (record c.queue { entries = entries }) m)
   new_come c id group body m entries n f l g o =
-      record { chain = one_move key c.queue _ _ (come_move c _ m entries refl refl refl tt (tells _ true false false false false refl refl refl refl refl) n f l (ap (λ x. Some x) g) refl o); actors = refl }
+      record { chain = one_move u past key c.queue _ _ (come_move c _ m entries refl refl refl tt (tells _ true false false false false refl refl refl refl refl) n f l (ap (λ x. Some x) g) refl o) (of_none u past c.queue _ _ refl refl refl); actors = refl }
 
-  unless_come : (c : Core) (id : MessageId) (g : Option (List ℕ)) (b body group : List ℕ) (scope : Option (List ℕ)) (text : List ℕ) (o : Option Entry) → living c.queue key.at scope text ≡ o → IsStocked c.queue → IsArrived c (Forward id g b) (sent_of c.queue (send_unless c.queue key.at body group scope text o))
-  unless_come c id g b body group scope text None f s =
-      new_come c id g b (new_message c.queue key.at body (Some group) c.queue.settings.delay) (with_entry c.queue key.at scope text).entries refl refl (rests_at c.queue body (Some group) c.queue.settings.delay) refl (more_entries c.queue scope text s)
-  unless_come c id g b body group scope text (Some e) f s =
-      let old : e.number < c.queue.arrivals = find_all (λ (x : Entry). nat_lt key.at x.end && same_text x.scope scope && bytes_eq x.id text) (λ x. x.number < c.queue.arrivals) c.queue.entries e s.entries f in
+  unless_come : (c : Core) (id : MessageId) (g : Option (List ℕ)) (b body group : List ℕ) (scope : Option (List ℕ)) (text : List ℕ) (o : Option Entry) → is_fifo c.queue.settings.kind ≡ true → living c.queue key.at scope text ≡ o → IsStocked c.queue → IsArrived c (Forward id g b) (sent_of c.queue (send_unless c.queue key.at body group scope text o))
+  unless_come c id g b body group scope text None y f s =
+      new_come c id g b (new_message c.queue key.at body (Some group) c.queue.settings.delay) (with_entry c.queue key.at scope text).entries refl refl (rests_at c.queue body (Some group) c.queue.settings.delay) refl (more_entries c.queue scope text)
+  unless_come c id g b body group scope text (Some e) y f s =
       record {
-        chain = one_move key c.queue _ _ (record { at_key = refl; at_site = refl; asked = tt; does = stays (named_stays c.queue _ e.number refl (tells _ false false false false false refl refl refl refl refl) old (λ h. cc) (λ h. cc)) });
+        chain = one_move u past key c.queue _ _ (record { at_key = refl; at_site = refl; asked = tt; does = stays (named_stays c.queue _ e.number refl (tells _ false false false false false refl refl refl refl refl) (named_by c scope text e s f) (λ h. cc) (λ h. cc)) }) (record { given = λ t. cc; next = λ t. cc; repeats = λ t. repeats_by c.queue _ scope text e y f refl refl });
         actors = refl;
       }
 
-  forwarded_chain : (k : Kind) (c : Core) (id : MessageId) (body : List ℕ) (group : Option (List ℕ)) → IsStocked c.queue → IsArrived c (Forward id group body) (forwarded k c.queue key.at id body group)
-  forwarded_chain (Standard hosts sampled) c id body group s =
-      new_come c id group body (new_message c.queue key.at body None c.queue.settings.delay) c.queue.entries refl refl (rests_at c.queue body None c.queue.settings.delay) refl (old_entries c.queue s)
-  forwarded_chain (Fifo content scope) c id body group s =
+  forwarded_chain : (k : Kind) (c : Core) (id : MessageId) (body : List ℕ) (group : Option (List ℕ)) → c.queue.settings.kind ≡ k → IsStocked c.queue → IsArrived c (Forward id group body) (forwarded k c.queue key.at id body group)
+  forwarded_chain (Standard hosts sampled) c id body group y s =
+      new_come c id group body (new_message c.queue key.at body None c.queue.settings.delay) c.queue.entries refl refl (rests_at c.queue body None c.queue.settings.delay) refl (old_entries c.queue)
+  forwarded_chain (Fifo content scope) c id body group y s =
       let g : List ℕ = forwarded_group group in
-      unless_come c id group body body g (scope_of scope g) (id_text id) (living c.queue key.at (scope_of scope g) (id_text id)) refl s
+      unless_come c id group body body g (scope_of scope g) (id_text id) (living c.queue key.at (scope_of scope g) (id_text id)) (ap is_fifo y) refl s
 
   pub arrived_chain : (c : Core) (load : Load) → IsStocked c.queue → IsArrived c load (arrived c.queue key.at load)
   arrived_chain c (Redrive id group origin body enqueued) s =
@@ -394,19 +432,19 @@ module _ (key : Key) where
   arrived_chain c (Moves id group origin body) s =
       let m : Message = brought c.queue key.at origin body group key.at None in
       settled_chain (is_too_old c.queue key.at m) c (Moves id group origin body) m refl refl refl refl (λ y. omega arith) (λ y t. let none : c.queue.settings.retention ≤ key.at - key.at = leb-true c.queue.settings.retention (key.at - key.at) t in omega (arith, none)) s
-  arrived_chain c (Forward id group body) s = forwarded_chain c.queue.settings.kind c id body group s
+  arrived_chain c (Forward id group body) s = forwarded_chain c.queue.settings.kind c id body group refl s
 
   -- steps of tasks
   moved_stand : (q : Queue) (m : Message) (ms : List Message) → All (λ x. x.number ≢ m.number) ms → Stand q ms → Stand (taken_out q m.number) ms
   moved_stand q m ms d s = λ i e l. let x : Message = get_or ms i e in other_without m.number x.number q.records (d i e l) ∙ s i e l
 
   moved_chain :
-      (to : Option ℕ) (ms : List Message) (q : Queue) (d : Core) (t : Task) → d.queue.site ≡ q.site → Apart ms → Stand q ms → All (λ m. is_visible m ≡ true) ms
-      → Chain key q (moves key d t (take_each q to ms).loads).rows (take_each q to ms).queue
-  moved_chain to [] q d t e a s v = refl
-  moved_chain to (m ∷ ms) q d t e a s v =
+      (behind : List Row) (to : Option ℕ) (ms : List Message) (q : Queue) (d : Core) (t : Task) → d.queue.site ≡ q.site → Apart ms → Stand q ms → All (λ m. is_visible m ≡ true) ms
+      → Chain u behind key q (moves key d t (take_each q to ms).loads).rows (take_each q to ms).queue
+  moved_chain behind to [] q d t e a s v = refl
+  moved_chain behind to (m ∷ ms) q d t e a s v =
       elim (destination to m) as
-      (λ o. Chain key q (moves key d t (elim o as (λ _. Taken) [ None ↦ record { queue = q; loads = []; stuck = true } | Some n ↦ taken_one q m n (take_each (taken_out q m.number) to ms) ]).loads).rows
+      (λ o. Chain u behind key q (moves key d t (elim o as (λ _. Taken) [ None ↦ record { queue = q; loads = []; stuck = true } | Some n ↦ taken_one q m n (take_each (taken_out q m.number) to ms) ]).loads).rows
       (elim o as (λ _. Taken) [ None ↦ record { queue = q; loads = []; stuck = true } | Some n ↦ taken_one q m n (take_each (taken_out q m.number) to ms) ]).queue) [
         | None ↦ refl
         | Some n ↦
@@ -430,14 +468,15 @@ module _ (key : Key) where
                       after = refl;
                     });
               },
-              moved_chain to ms x d (one_sent t (drawn_latency t.move.settings.latency t.draws).1) e a.1 (moved_stand q m ms a.0 (All-tail (λ y. numbered y.number q.records ≡ Some y) m ms s)) (All-tail (λ y. is_visible y ≡ true) m ms v),
+              of_none u behind q _ x refl refl refl,
+              moved_chain (behind ++ _ ∷ []) to ms x d (one_sent t (drawn_latency t.move.settings.latency t.draws).1) e a.1 (moved_stand q m ms a.0 (All-tail (λ y. numbered y.number q.records ≡ Some y) m ms s)) (All-tail (λ y. is_visible y ≡ true) m ms v),
             )
       ]
 
-  end_chain : (c : Core) (q : Queue) (t : Task) (rest : Rest) → c.queue.site ≡ q.site → Chain key q (end_row key c t rest) q
-  end_chain c q t Empty e = one_move key q _ q (record { at_key = refl; at_site = e; asked = tt; does = stays (nameless_stays key q _ refl (tells _ false false false false false refl refl refl refl refl)) })
-  end_chain c q t More e = refl
-  end_chain c q t NoSource e = one_move key q _ q (record { at_key = refl; at_site = e; asked = tt; does = stays (nameless_stays key q _ refl (tells _ false false false false false refl refl refl refl refl)) })
+  end_chain : (behind : List Row) (c : Core) (q : Queue) (t : Task) (rest : Rest) → c.queue.site ≡ q.site → Chain u behind key q (end_row key c t rest) q
+  end_chain behind c q t Empty e = one_move u behind key q _ q (record { at_key = refl; at_site = e; asked = tt; does = stays (nameless_stays key q _ refl (tells _ false false false false false refl refl refl refl refl)) }) (of_none u behind q _ q refl refl refl)
+  end_chain behind c q t More e = refl
+  end_chain behind c q t NoSource e = one_move u behind key q _ q (record { at_key = refl; at_site = e; asked = tt; does = stays (nameless_stays key q _ refl (tells _ false false false false false refl refl refl refl refl)) }) (of_none u behind q _ q refl refl refl)
 
   taken_site : (to : Option ℕ) (ms : List Message) (q : Queue) → (take_each q to ms).queue.site ≡ q.site
   taken_site to [] q = refl
@@ -457,7 +496,7 @@ module _ (key : Key) where
       let y : (List (ℕ × Load) × Rest) × Queue = take_movable c.queue most to in
       let d : Core = with_queue c y.1 in
       let m : Moved = moves key d t y.0.0 in
-      let u : Task = record m.task { move = task_stepped m.task.move key.at (length y.0.0) y.0.1 } in
+      let x : Task = record m.task { move = task_stepped m.task.move key.at (length y.0.0) y.0.1 } in
       let site : y.1.site ≡ c.queue.site = taken_site to ms c.queue in
-      let first : Chain key c.queue m.rows y.1 = moved_chain to ms c.queue d t site (first_apart c.queue set most s.ordered) (first_stand c.queue set most s.ordered) (All-take (λ m. is_visible m ≡ true) most (all_available c.queue) (visible_available c.queue.settings.kind set c.queue.records)) in
-      record { chain = chain_append key m.rows (end_row key d u y.0.1) c.queue y.1 y.1 first (end_chain d y.1 u y.0.1 refl); actors = refl }
+      let first : Chain u past key c.queue m.rows y.1 = moved_chain past to ms c.queue d t site (first_apart c.queue set most s.ordered) (first_stand c.queue set most s.ordered) (All-take (λ m. is_visible m ≡ true) most (all_available c.queue) (visible_available c.queue.settings.kind set c.queue.records)) in
+      record { chain = chain_append u past key m.rows (end_row key d x y.0.1) c.queue y.1 y.1 first (end_chain (past ++ m.rows) d y.1 x y.0.1 refl); actors = refl }

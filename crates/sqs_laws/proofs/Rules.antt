@@ -7,11 +7,13 @@ use Rattle.sqs_model.specs.Valid.{IsQueueSettings}
 use Rattle.sqs_laws.specs.Laws.{KeepsTheRules}
 use Rattle.sqs_laws.proofs.Ages.{ages_are_told}
 use Rattle.sqs_laws.proofs.End.{ends_are_ends}
+use Rattle.sqs_laws.proofs.Fifo.{groups_are_in_order}
 use Rattle.sqs_laws.proofs.InFlight.{flights_are_told}
 use Rattle.sqs_laws.proofs.Letters.{letters_are_dead}
 use Rattle.sqs_laws.proofs.Order.{rows_in_time}
 use Rattle.sqs_laws.proofs.Origins.{origins_are_told}
 use Rattle.sqs_laws.proofs.Receipts.{receipts_are_known}
+use Rattle.sqs_laws.proofs.Repeats.{repeats_are_recent}
 
 pub keeps_the_rules : (s : Scenario) → IsSoundScenario s → All IsQueueSettings s.queues → (r : Run) → IsRunOf s r → KeepsTheRules s r.rows
 keeps_the_rules s sound valid r is =
@@ -22,5 +24,7 @@ keeps_the_rules s sound valid r is =
       receipts = receipts_are_known s valid r is;
       origins = origins_are_told s r is;
       ages = ages_are_told s r is;
+      fifo = groups_are_in_order s sound r is;
+      repeats = repeats_are_recent s r is;
       in_time = rows_in_time s sound r is;
     }

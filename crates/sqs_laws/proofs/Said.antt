@@ -2,8 +2,8 @@
 use Rattle.std.specs.List.{list_any}
 use Rattle.std.specs.Prelude.{All, Bool, List, None, Option, Some, [], cond, count_by, false, true, ℕ, ◌&&◌, ◌+◌, ◌++◌, ◌<◌, ◌==◌, ◌∷◌, ◌≡◌, ◌≢◌, ◌≤◌, ◌||◌}
 use Rattle.std.proofs.Common.{ap, arith, refl, sym, ◌∙◌}
-use Rattle.std.proofs.Math.Bool.{and-false, or-false, or-true}
-use Rattle.std.proofs.lemmas.Bool.{eq-eqb, eqb-true, ne_eqb}
+use Rattle.std.proofs.Math.Bool.{or-false, or-true}
+use Rattle.std.proofs.lemmas.Bool.{eqb-true, ne_eqb}
 use Rattle.std.proofs.lemmas.Bool.Decides.{nat_tests}
 use Rattle.std.proofs.lemmas.List.Folds.{list_any-append}
 use Rattle.std.proofs.lemmas.List.Elements.{All-head, All-tail}
@@ -19,6 +19,7 @@ use Rattle.sqs_model.specs.Queue.{has_number, numbered}
 use Rattle.sqs_model.proofs.Ledger.{bit}
 use Rattle.sqs_model.proofs.Numbered.{Climbs}
 use Rattle.sqs_laws.specs.Words.{comes, comings, has_left, is_gone, is_new, leaves, names, received, times}
+pub use Rattle.sqs_laws.proofs.Naming.{names_id, names_other, names_same}
 use Rattle.sqs_laws.proofs.Worlds.{NamesOwn}
 
 -- counts with one more
@@ -29,16 +30,6 @@ count_push {A} p xs x =
 
 pub any_push : {A : Type 0} (p : A → Bool) (xs : List A) (x : A) → list_any p (xs ++ x ∷ []) ≡ (list_any p xs || p x)
 any_push p xs x = list_any-append p xs (x ∷ []) ∙ ap (λ b. list_any p xs || b) (or-false (p x))
-
--- a row that names one message names no other
-pub names_id : (m i : MessageId) (r : Row) → r.message ≡ Some i → names m r ≡ (m.site == i.site && m.number == i.number)
-names_id m i r e = ap (same_id (Some m)) e
-
-pub names_same : (m : MessageId) (r : Row) → r.message ≡ Some m → names m r ≡ true
-names_same m r e = names_id m m r e ∙ (rw (eq-eqb m.site m.site refl, eq-eqb m.number m.number refl) refl)
-
-pub names_other : (m i : MessageId) (r : Row) → r.message ≡ Some i → m.number ≢ i.number → names m r ≡ false
-names_other m i r e d = names_id m i r e ∙ ap (λ b. (m.site == i.site) && b) (ne_eqb m.number i.number d) ∙ and-false (m.site == i.site)
 
 -- a row of another queue names no message of this one
 names_apart_by : (m : MessageId) (r : Row) (o : Option MessageId) → r.message ≡ o → NamesOwn r → r.queue ≢ m.site → names m r ≡ false

@@ -55,6 +55,7 @@ nameless_plain kinds.Receive answer t = record { stays = refl; away = refl }
 nameless_plain kinds.Start answer t = record { stays = refl; away = refl }
 nameless_plain kinds.Cancel answer t = record { stays = refl; away = refl }
 nameless_plain kinds.Sample answer t = record { stays = refl; away = refl }
+nameless_plain kinds.Scale answer t = record { stays = refl; away = refl }
 nameless_plain kinds.Send answer t = absurd t
 nameless_plain kinds.Delete answer t = absurd t
 nameless_plain kinds.Change answer t = absurd t
@@ -176,16 +177,19 @@ module _ (key : Key) (f g : Row → ℕ) (h : Outbound → ℕ) (plain : (r : Ro
         quiet = λ p c d r i a b. from_zero p (says d r) a (one_row d r (nameless_plain r.kind r.answer i.kind));
         Hears = λ c gots. Unit {0};
         hears_none = λ c. tt;
+        Woken = λ c n. Unit {0};
+        Acted = λ c n. Unit {0};
         gives = λ p c agent max timeout set i. (from_zero p _ i (given_weighs c agent timeout (give_most c.queue key.at max timeout set)), tt);
         changes = λ p a c text timeout i. from_zero p _ i (change_weighs a c text timeout (read_receipt text));
         deletes = λ p a c text i. from_zero p _ i (delete_weighs a c text (read_receipt text));
-        sends = λ p a c body delay group id i. from_zero p _ i (send_weighs a c body (sends c.queue.settings.kind c.queue key.at body delay group id));
+        sends = λ p a c body delay group id m i. from_zero p _ i (send_weighs a c body (sends c.queue.settings.kind c.queue key.at body delay group id));
         draws = λ p c hosts i. i;
         starts = λ p c n t e i. i;
         cancels = λ p c n t e i. i;
         Stands = λ q actors a. Unit {0};
-        May = λ c x. Unit {0};
+        May = λ c a x. Unit {0};
         turns = λ p n c a w e t i. (i, tt, tt);
+        acted = λ p a c x i s m h g. tt;
         polls = λ p a c max wait timeout e s i. i;
         serves = λ p a c id r failed o m i. from_zero p _ i (serve_weighs a c id r failed o);
       }
@@ -251,6 +255,7 @@ module _ (key : Key) (f g : Row → ℕ) (h : Outbound → ℕ) (plain : (r : Ro
   due =
       record {
         IsDue = λ k c. Unit {0};
+        woken = λ c d. tt;
         answers = λ p c i. i;
         ends = λ p c i. i;
         expires = λ p c d i. from_zero p _ i (expiry_weighs c (expired c.queue key.at key.number));

@@ -1,16 +1,18 @@
 -- A law that each single move keeps holds of all rows of a run.
 use Rattle.std.specs.List.{enumerate_from}
-use Rattle.std.specs.Prelude.{All, List, None, Option, Some, [], false, filter, get_or, if◌then◌else◌, map, nat_le, slice_get, suc, true, zero, ℕ, ◌+◌, ◌++◌, ◌<◌, ◌==◌, ◌∷◌, ◌≡◌, ◌≢◌, ◌≤◌}
+use Rattle.std.specs.Prelude.{All, List, None, Option, Some, [], false, filter, get_or, if◌then◌else◌, length, map, nat_le, slice_get, suc, true, zero, ℕ, ◌+◌, ◌-◌, ◌++◌, ◌<◌, ◌==◌, ◌∷◌, ◌≡◌, ◌≢◌, ◌≤◌}
 use Rattle.std.proofs.Common.{ap, arith, refl, subst, sym, ◌∙◌}
 use Rattle.std.proofs.lemmas.Bool.{leb-true}
 use Rattle.std.proofs.lemmas.List.{append-nil, append_assoc}
-use Rattle.std.proofs.lemmas.List.Elements.{All-cons, All-head, All-map, All-nil, All-tail, All-weaker}
+use Rattle.std.proofs.lemmas.List.Elements.{All-cons, All-filter, All-head, All-map, All-nil, All-tail, All-weaker}
 use Rattle.sim_clock.specs.declared.key.Key.{Key}
 use Rattle.sqs_message.specs.declared.ids.MessageId.{MessageId}
 use Rattle.sqs_message.specs.declared.message.Message.{Message}
 use Rattle.sqs_message.specs.declared.row.Row.{Row}
 use Rattle.sqs_redrive.specs.declared.settings.QueueSettings.{QueueSettings}
 use Rattle.sqs_redrive.specs.declared.transfers.Outbound.{Outbound}
+use Rattle.sqs_model.specs.declared.agents.ActorSettings.{ActorSettings}
+use Rattle.sqs_model.specs.Actor.{Actor}
 use Rattle.sqs_model.specs.Dues.{dues, least_due}
 use Rattle.sqs_model.specs.Queue.{Entry, Queue}
 use Rattle.sqs_model.specs.Run.{IsRunOf, Run, after}
@@ -19,13 +21,17 @@ use Rattle.sqs_model.specs.Site.{Site, accepted, number_of}
 use Rattle.sqs_model.specs.Step.{Handled, handled}
 use Rattle.sqs_model.specs.World.{Stepped, due_by, world_due, delivered, delivered_one, handled_among, handled_here, handled_there, is_due, next_due, stepped_at}
 use Rattle.sqs_model.proofs.Branches.{either}
+use Rattle.sqs_model.proofs.Counts.{ascends_lower}
+use Rattle.sqs_model.proofs.Members.{In}
+use Rattle.sqs_model.proofs.Opening.{ascends_enumerated, ascends_filter, ascends_map}
 use Rattle.sqs_model.proofs.WorldAccounts.{due_fits}
 use Rattle.sqs_model.proofs.WorldMoves.{is_due_least, least_in}
 use Rattle.sqs_laws.specs.Words.{EachRow}
 use Rattle.sqs_laws.proofs.Chains.{IsInOrder, IsMoved, handled_moves}
+use Rattle.sqs_laws.proofs.Gives.{AreOfScenario, Fits, due_awake, first_fits}
 use Rattle.sqs_laws.proofs.Holding.{IsInformed}
 use Rattle.sqs_laws.proofs.Numbers.{due_over}
-use Rattle.sqs_laws.proofs.Moves.{Chain, IsStocked, Keeps, Move, chain_keeps, does_keep, moves_own}
+use Rattle.sqs_laws.proofs.Moves.{Chain, IsOfGroup, IsStocked, Keeps, Move, chain_keeps, does_keep, moves_own}
 
 -- a row names no message of another queue
 abbrev pub NamesOwn : Row → Type 0
@@ -36,7 +42,7 @@ NamesOwn r = (m : MessageId) → r.message ≡ Some m → m.site ≡ r.queue
 pub record RowLaw (s : Scenario) : Type 1 where
   pub Holds : List Row → Queue → Type 0
   pub Meets : List Row → Row → Type 0
-  pub moves : (rows : List Row) (key : Key) (q : Queue) (r : Row) (p : Queue) → key.at ≤ s.horizon → Move key q r p → IsStocked q → Holds rows q → Meets rows r × Holds (rows ++ r ∷ []) p
+  pub moves : (rows : List Row) (key : Key) (q : Queue) (r : Row) (p : Queue) → key.at ≤ s.horizon → Move key q r p → IsOfGroup s rows q r p → IsStocked q → Holds rows q → Meets rows r × Holds (rows ++ r ∷ []) p
   pub apart : (rows : List Row) (r : Row) (q : Queue) → r.queue ≢ q.site → NamesOwn r → Holds rows q → Holds (rows ++ r ∷ []) q
   pub opens : (n : ℕ) (settings : QueueSettings) → slice_get s.queues n ≡ Some settings → Holds [] (record { site = n; settings = settings; records = []; entries = []; arrivals = 0 })
 
@@ -72,15 +78,15 @@ module _ (scenario : Scenario) (law : RowLaw scenario) where
     pub here : Holds (rows ++ rs) p
     pub apart : (t : Queue) → t.site ≢ q.site → Holds rows t → Holds (rows ++ rs) t
 
-  chain_passes : (key : Key) → key.at ≤ scenario.horizon → (rs rows : List Row) (q p : Queue) → Chain key q rs p → IsStocked q → Holds rows q → Passes rows rs q p
+  chain_passes : (key : Key) → key.at ≤ scenario.horizon → (rs rows : List Row) (q p : Queue) → Chain scenario rows key q rs p → IsStocked q → Holds rows q → Passes rows rs q p
   chain_passes key by [] rows q p c s h =
       record {
         each = tt;
         here = subst (λ r. Holds r p) (sym (append-nil rows)) (subst (Holds rows) c h);
         apart = λ t d k. subst (λ r. Holds r t) (sym (append-nil rows)) k;
       }
-  chain_passes key by (r ∷ rs) rows q p (x, m, c) s h =
-      let one : Meets rows r × Holds (rows ++ r ∷ []) x = law.moves rows key q r x by m s h in
+  chain_passes key by (r ∷ rs) rows q p (x, m, g, c) s h =
+      let one : Meets rows r × Holds (rows ++ r ∷ []) x = law.moves rows key q r x by m g s h in
       let keeps : Keeps q x = does_keep key q r x m.does s in
       let rest : Passes (rows ++ r ∷ []) rs x p = chain_passes key by rs (rows ++ r ∷ []) x p c keeps.stocked one.1 in
       let own : NamesOwn r = moves_own key q r x m in
@@ -94,7 +100,7 @@ module _ (scenario : Scenario) (law : RowLaw scenario) where
 
   -- a site of a run
   pub record IsGood (rows : List Row) (s : Site) : Type 0 where
-    pub order : IsInOrder s.core
+    pub order : IsInOrder scenario s.core
     pub holds : Holds rows s.core.queue
 
   -- sites of a world are numbered
@@ -118,9 +124,10 @@ module _ (scenario : Scenario) (law : RowLaw scenario) where
   here_steps key by rows n s ss g a d =
       let one : IsGood rows s = All-head (IsGood rows) s ss g in
       let h : Handled = handled key s in
-      let moved : IsMoved key s.core h.rows h.site.core = handled_moves key s one.order (λ _. due_fits s key (least_in (dues s) key d)) (due_over key s one.order.stocked (least_in (dues s) key d)) in
+      let due : In (dues s) key = least_in (dues s) key d in
+      let moved : IsMoved scenario rows key s.core h.rows h.site.core = handled_moves scenario rows key s one.order (λ _. due_fits s key due) (due_over key s one.order.stocked due) (due_awake key s one.order.numbers.climb due) in
       let p : Passes rows h.rows s.core.queue h.site.core.queue = chain_passes key by h.rows rows s.core.queue h.site.core.queue moved.chain one.order.stocked one.holds in
-      let site : number_of s.core ≡ number_of h.site.core = (chain_keeps key h.rows s.core.queue h.site.core.queue moved.chain one.order.stocked).site in
+      let site : number_of s.core ≡ number_of h.site.core = (chain_keeps scenario rows key h.rows s.core.queue h.site.core.queue moved.chain one.order.stocked).site in
       let others : All (λ x. n + 1 ≤ number_of x.core) ss = above (n + 1) ss a.1 in
       let rest : All (IsGood rows) ss = All-tail (IsGood rows) s ss g in
       record {
@@ -206,10 +213,31 @@ module _ (scenario : Scenario) (law : RowLaw scenario) where
       let r : Run = after scenario.horizon n start in stepped_lawful r (next_due scenario.horizon r.sites) (due_within (world_due r.sites)) (after_lawful n start h)
 
   -- the opening
-  opening_order : (x : ℕ × QueueSettings) → IsInOrder (opening_site scenario x).core
+  fits_first : (n : ℕ) (actors : List ActorSettings) → ((i : ℕ) (a : ActorSettings) → slice_get actors i ≡ Some a → slice_get scenario.actors (n - length scenario.queues + i) ≡ Some a) → length scenario.queues ≤ n → All (λ x. Fits scenario (opening_actor scenario.seed x)) (enumerate_from n actors)
+  fits_first n [] f l = All-nil (λ (x : ℕ × ActorSettings). Fits scenario (opening_actor scenario.seed x))
+  fits_first n (a ∷ others) f l =
+      let own : slice_get scenario.actors (n - length scenario.queues) ≡ Some a = let same : n - length scenario.queues + 0 ≡ n - length scenario.queues = omega arith in subst (λ k. slice_get scenario.actors k ≡ Some a) same (f 0 a refl) in
+      All-cons (λ (x : ℕ × ActorSettings). Fits scenario (opening_actor scenario.seed x)) (n, a) (enumerate_from (n + 1) others) (first_fits scenario n a own)
+      (fits_first (n + 1) others (λ i x e. let same : n + 1 - length scenario.queues + i ≡ n - length scenario.queues + suc i = omega (arith, l) in subst (λ k. slice_get scenario.actors k ≡ Some x) (sym same) (f (suc i) x e)) (omega (arith, l)))
+
+  opening_numbers : (n : ℕ) → AreOfScenario scenario (map (opening_actor scenario.seed) (filter (λ x. x.1.home == n) (numbered_actors scenario)))
+  opening_numbers n =
+      let those : List (ℕ × ActorSettings) = filter (λ x. x.1.home == n) (numbered_actors scenario) in
+      let all : All (λ x. Fits scenario (opening_actor scenario.seed x)) (numbered_actors scenario) =
+      fits_first (length scenario.queues) scenario.actors (λ i a e. let same : i ≡ length scenario.queues - length scenario.queues + i = omega arith in subst (λ k. slice_get scenario.actors k ≡ Some a) same e) (omega arith) in
+      record {
+        fit = All-map (Fits scenario) (opening_actor scenario.seed) those (All-filter (λ x. x.1.home == n) (λ (x : ℕ × ActorSettings). Fits scenario (opening_actor scenario.seed x)) (numbered_actors scenario) all);
+        climb =
+            ascends_map (λ (a : Actor). a.number) (opening_actor scenario.seed) 0 those
+            (ascends_filter (λ (x : ℕ × ActorSettings). x.0) (λ x. x.1.home == n) 0 (numbered_actors scenario)
+            (ascends_lower (λ (x : ℕ × ActorSettings). x.0) 0 (length scenario.queues) (numbered_actors scenario) (omega arith) (ascends_enumerated (length scenario.queues) scenario.actors)));
+      }
+
+  opening_order : (x : ℕ × QueueSettings) → IsInOrder scenario (opening_site scenario x).core
   opening_order (n, settings) =
       record {
         stocked = record { ordered = tt; given_out = All-nil (λ (m : Message). m.number < 0); entries = All-nil (λ (e : Entry). e.number < 0) };
+        numbers = opening_numbers n;
         actors =
             All-map (IsInformed n 0) (opening_actor scenario.seed) (filter (λ x. x.1.home == n) (numbered_actors scenario))
             (λ i e l. record { held = tt; done = tt; failed = tt });
@@ -237,14 +265,14 @@ module _ (scenario : Scenario) (law : RowLaw scenario) where
 -- what a law says of each row, by its move
 pub every_row_by :
     (s : Scenario) (law : RowLaw s) (P : List Row → Row → Type 0)
-    → ((rows : List Row) (key : Key) (q : Queue) (r : Row) (p : Queue) → Move key q r p → IsStocked q → law.Holds rows q → law.Holds (rows ++ r ∷ []) p → P rows r)
+    → ((rows : List Row) (key : Key) (q : Queue) (r : Row) (p : Queue) → Move key q r p → IsOfGroup s rows q r p → IsStocked q → law.Holds rows q → law.Holds (rows ++ r ∷ []) p → P rows r)
     → (r : Run) → IsRunOf s r → EachRow r.rows P
 every_row_by s law P meets r is =
     every_row s
     (record {
       Holds = law.Holds;
       Meets = P;
-      moves = λ rows key q x p by m k h. let after = (law.moves rows key q x p by m k h).1 in (meets rows key q x p m k h after, after);
+      moves = λ rows key q x p by m g k h. let after = (law.moves rows key q x p by m g k h).1 in (meets rows key q x p m g k h after, after);
       apart = law.apart;
       opens = law.opens;
     }) r is
@@ -255,9 +283,9 @@ both s a b =
     record {
       Holds = λ rows q. a.Holds rows q × b.Holds rows q;
       Meets = λ rows r. a.Meets rows r × b.Meets rows r;
-      moves = λ rows key q r p by m k h.
-          let x = a.moves rows key q r p by m k h.0 in
-          let y = b.moves rows key q r p by m k h.1 in
+      moves = λ rows key q r p by m g k h.
+          let x = a.moves rows key q r p by m g k h.0 in
+          let y = b.moves rows key q r p by m g k h.1 in
           ((x.0, y.0), (x.1, y.1));
       apart = λ rows r q d own h. (a.apart rows r q d own h.0, b.apart rows r q d own h.1);
       opens = λ n settings e. (a.opens n settings e, b.opens n settings e);

@@ -18,8 +18,10 @@ use Rattle.sqs_redrive.specs.declared.settings.QueueSettings.{QueueSettings}
 use Rattle.sqs_model.specs.Accounts.{is_deleted, is_expired}
 use Rattle.sqs_model.specs.declared.finals.FinalMessage.{FinalMessage}
 use Rattle.sqs_model.specs.declared.finals.FinalTransfer.{FinalTransfer}
+use Rattle.sqs_model.specs.Longest.{deduplication_interval}
 use Rattle.sqs_model.specs.Scenario.{Scenario, least_latency}
-use Rattle.sqs_laws.specs.Words.{EachNaming, EachRow, arrives_at, changed, comes, comings, flying, goes_to, has_left, in_flight_at, is_change, is_delete, is_gone, is_in_flight, is_move, is_redrive, is_release, may_follow, origin_of, received, sent_at, that_stay, times}
+use Rattle.sqs_laws.specs.Groups.{IsByCall, WasGiven}
+use Rattle.sqs_laws.specs.Words.{EachNaming, EachRow, arrives_at, came_by, changed, comes, comings, flight, flying, goes_to, has_left, in_flight_at, is_change, is_delete, is_gone, is_in_flight, is_move, is_redrive, is_release, is_repeat, may_follow, origin_of, received, sent_by, that_stay, times}
 
 -- The end is the end. The messages that come to a queue are numbered from 0 on, and no row names one before it comes.
 -- Once it was deleted, has expired, or left for another queue, only answers gone and repeat and a consumer's fail and
@@ -114,14 +116,39 @@ pub record Origins (rows : List Row) : Type 0 where
   pub told : EachNaming rows (λ before r m. IsTrue (received r)
       → (o : Origin) × (origin_of m before ≡ Some o) × (r.detail ≡ details.From o))
 
--- Ages. Of a message that was sent to its queue a delete or an expiry tells how long ago that was. It expires exactly
--- at the end of the queue's retention period.
+-- Ages. Of a message that was sent to its queue a delete or an expiry tells how long ago that was. If it expires, that
+-- is exactly at the end of the queue's retention period; that it does is not said.
 pub record Ages (s : Scenario) (rows : List Row) : Type 0 where
   pub told : EachNaming rows (λ before r m. IsTrue (is_deleted r.answer || is_expired r.answer)
-      → (sent : ℕ) → sent_at m before ≡ Some sent → r.detail ≡ details.Age (r.key.at - sent))
+      → (sent : Row) → sent_by m before ≡ Some sent → r.detail ≡ details.Age (r.key.at - sent.key.at))
   pub expiry : EachNaming rows (λ before r m. IsTrue (is_expired r.answer)
-      → (sent : ℕ) → sent_at m before ≡ Some sent
-      → (q : QueueSettings) → slice_get s.queues r.queue ≡ Some q → r.key.at ≡ sent + q.retention)
+      → (sent : Row) → sent_by m before ≡ Some sent
+      → (q : QueueSettings) → slice_get s.queues r.queue ≡ Some q → r.key.at ≡ sent.key.at + q.retention)
+
+-- FIFO. When a message of a FIFO queue is received, each message of its group that came before it and is still in the
+-- queue was received by the same call; and no message of the group that came after it is in flight. Two messages are of
+-- one group if both were sent to the queue with it.
+pub record FifoOrder (s : Scenario) (rows : List Row) : Type 0 where
+  pub before : EachNaming rows (λ before r m. IsTrue (received r && fifo_at s r)
+      → (n : MessageId) (g : List ℕ) → n.site ≡ r.queue → WasGiven s before m g → WasGiven s before n g
+      → n.number < m.number → has_left n before ≡ false → IsByCall r (flight n before))
+  pub after : EachNaming rows (λ before r m. IsTrue (received r && fifo_at s r)
+      → (n : MessageId) (g : List ℕ) → n.site ≡ r.queue → WasGiven s before m g → WasGiven s before n g
+      → m.number < n.number → flying n before ≡ false)
+
+-- a row of a queue repeats a message: by another row that message came there, less than 5 minutes before
+pub record RepeatsRecent (before : List Row) (r : Row) : Type 0 where
+  pub message : MessageId
+  pub by : Row
+  pub names : r.message ≡ Some message
+  pub came : came_by message before ≡ Some by
+  pub recent : r.key.at < by.key.at + deduplication_interval
+
+-- Repeats. A row with the answer repeat is of a FIFO queue, and names a message that came there less than 5 minutes
+-- before. At a standard queue nothing is a repeat.
+pub record Repeats (s : Scenario) (rows : List Row) : Type 0 where
+  pub fifo : EachRow rows (λ before r. IsTrue (is_repeat r.answer) → IsTrue (fifo_at s r))
+  pub recent : EachRow rows (λ before r. IsTrue (is_repeat r.answer) → RepeatsRecent before r)
 
 -- Time. Rows are in the order of time, none after the horizon.
 pub record InTime (s : Scenario) (rows : List Row) : Type 0 where
@@ -136,6 +163,8 @@ pub record KeepsTheRules (s : Scenario) (rows : List Row) : Type 0 where
   pub receipts : Receipts s rows
   pub origins : Origins rows
   pub ages : Ages s rows
+  pub fifo : FifoOrder s rows
+  pub repeats : Repeats s rows
   pub in_time : InTime s rows
 
 -- What is left. The final queues have just the messages that came to a queue and have not left it, queue by queue in

@@ -128,9 +128,13 @@ has_left m rows = list_any (λ r. leaves r && names m r) rows
 abbrev pub origin_of : MessageId → List Row → Option Origin
 origin_of m rows = fold (λ o r. if comes r && names m r then origin_in r (Some m) else o) None rows
 
--- when a message was sent to its queue, if a row tells it
-abbrev pub sent_at : MessageId → List Row → Option ℕ
-sent_at m rows = fold (λ t r. if (is_send r.kind && comes r) && names m r then Some r.key.at else t) None rows
+-- the row by which a message came to its queue, if it did
+abbrev pub came_by : MessageId → List Row → Option Row
+came_by m rows = fold (λ t r. if comes r && names m r then Some r else t) None rows
+
+-- the row by which a message was sent to its queue, if it was
+abbrev pub sent_by : MessageId → List Row → Option Row
+sent_by m rows = fold (λ t r. if (is_send r.kind && comes r) && names m r then Some r else t) None rows
 
 -- the receive or change by which a message is in flight, if it is
 abbrev pub flight : MessageId → List Row → Option Row

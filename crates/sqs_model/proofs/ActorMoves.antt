@@ -43,7 +43,7 @@ drop_suc zero (x ∷ xs) c cs h = cc
 drop_suc (suc k) [] c cs h = cc
 drop_suc (suc k) (x ∷ xs) c cs h = drop_suc k xs c cs h
 
-drop_next : (k : ℕ) (xs : List ScriptCall) (c : ScriptCall) (cs : List ScriptCall) → drop k xs ≡ c ∷ cs → drop (k + 1) xs ≡ cs
+pub drop_next : (k : ℕ) (xs : List ScriptCall) (c : ScriptCall) (cs : List ScriptCall) → drop k xs ≡ c ∷ cs → drop (k + 1) xs ≡ cs
 drop_next k xs c cs h = rw add-one (drop_suc k xs c cs h)
 
 -- whether a transfer, if any, arrives later

@@ -2,7 +2,8 @@
 -- events has its case here, and a law that is an instance of the records below needs none of its own.
 use Rattle.std.specs.List.{list_any}
 use Rattle.std.specs.Prelude.{Bool, Err, List, None, Ok, Option, Result, Some, [], false, find, suc, true, unwrap_or, zero, ℕ, ◌-◌, ◌/◌, ◌+◌, ◌==◌, ◌∷◌, ◌≡◌}
-use Rattle.std.proofs.Common.{refl}
+use Rattle.std.proofs.Common.{refl, subst, ◌∙◌}
+use Rattle.std.proofs.lemmas.Bool.{eqb-true}
 use Rattle.sim_clock.specs.declared.key.Class.{Class}
 use Rattle.sim_clock.specs.declared.key.Class.TheVariants as classes
 use Rattle.sim_clock.specs.declared.key.Key.{Key}
@@ -39,11 +40,13 @@ use Rattle.sqs_model.specs.Polls.{acts_found, acts_most, acts_next, answer_polls
 use Rattle.sqs_model.specs.Queue.{Queue}
 use Rattle.sqs_model.specs.Receive.{give_most, receive}
 use Rattle.sqs_model.specs.Return.{released}
-use Rattle.sqs_model.specs.Site.{Core, Effect, Poll, Site, actor_numbered, and_then, has_key, no_effect, number_of, says, task_numbered, with_actor, with_task}
+use Rattle.sqs_model.specs.Site.{Core, Effect, Poll, Site, actor_numbered, and_then, has_key, is_actor, no_effect, number_of, says, task_numbered, with_actor, with_task}
 use Rattle.sqs_model.specs.Step.{Handled, arrival_done, ends_at, handle_arrival, handle_class, handle_expiry, handle_step, handled, handled_when, is_arrival, release_done, with_polls, woken_by}
 use Rattle.sqs_model.specs.Task.{Task}
 use Rattle.sqs_model.proofs.Answered.{receive_by}
 use Rattle.sqs_model.proofs.Branches.{either, either_by}
+use Rattle.sqs_model.proofs.Counts.{find_picked}
+use Rattle.sqs_model.proofs.Decisions.{next_decides}
 use Rattle.sqs_model.proofs.Ledger.{marks}
 
 -- whether a row of a kind with an answer tells of no message: that of a receive that gives none, of a task, a scaler or a sample
@@ -67,23 +70,43 @@ pub record IsNameless (key : Key) (c : Core) (r : Row) : Type 0 where
   pub nameless : r.message ≡ None
   pub kind : TellsOfNone r.kind r.answer
 
--- what an answer tells of messages that were received, if it is that of a receive
-abbrev pub IsTold : (Core → List Got → Type 0) → Core → Answer → Type 0
-IsTold Hears c (told_by.Got gots) = Hears c gots
-IsTold Hears c answer = Unit {0}
+-- what an answer tells an actor: of messages that were received, if it is that of a receive, or that it wakes
+abbrev pub IsTold : (Core → List Got → Type 0) → (Core → ℕ → Type 0) → (Core → ℕ → Type 0) → Core → ℕ → Answer → Type 0
+IsTold Hears Woken Acted c n (told_by.Got gots) = Hears c gots
+IsTold Hears Woken Acted c n (told_by.Wake st) = Woken c n
+IsTold Hears Woken Acted c n told_by.Waiting = Unit {0}
+IsTold Hears Woken Acted c n told_by.Other = Acted c n
 
--- an answer that tells of none
+-- an answer of an act that tells of no message
 abbrev IsBare : Answer → Type 0
 IsBare (told_by.Got []) = Unit {0}
 IsBare (told_by.Got (g ∷ gs)) = ⊥
+IsBare (told_by.Wake st) = ⊥
 IsBare answer = Unit {0}
 
-bare_told : (Hears : Core → List Got → Type 0) → ((c : Core) → Hears c []) → (c : Core) (answer : Answer) → IsBare answer → IsTold Hears c answer
-bare_told Hears none c (told_by.Got []) b = none c
-bare_told Hears none c (told_by.Got (g ∷ gs)) b = absurd b
-bare_told Hears none c (told_by.Wake st) b = tt
-bare_told Hears none c told_by.Waiting b = tt
-bare_told Hears none c told_by.Other b = tt
+-- what the answer of an act tells of messages
+abbrev IsHeard : (Core → List Got → Type 0) → Core → Answer → Type 0
+IsHeard Hears c (told_by.Got gots) = Hears c gots
+IsHeard Hears c (told_by.Wake st) = ⊥
+IsHeard Hears c answer = Unit {0}
+
+bare_heard : (Hears : Core → List Got → Type 0) → ((c : Core) → Hears c []) → (c : Core) (answer : Answer) → IsBare answer → IsHeard Hears c answer
+bare_heard Hears none c (told_by.Got []) b = none c
+bare_heard Hears none c (told_by.Got (g ∷ gs)) b = absurd b
+bare_heard Hears none c (told_by.Wake st) b = absurd b
+bare_heard Hears none c told_by.Waiting b = tt
+bare_heard Hears none c told_by.Other b = tt
+
+heard_told : (Hears : Core → List Got → Type 0) (Woken Acted : Core → ℕ → Type 0) (c : Core) (n : ℕ) (answer : Answer) → IsHeard Hears c answer → Acted c n → IsTold Hears Woken Acted c n answer
+heard_told Hears Woken Acted c n (told_by.Got gots) h a = h
+heard_told Hears Woken Acted c n (told_by.Wake st) h a = absurd h
+heard_told Hears Woken Acted c n told_by.Waiting h a = tt
+heard_told Hears Woken Acted c n told_by.Other h a = a
+
+-- an act that does something
+abbrev pub IsDone : Act → Type 0
+IsDone acts.Nothing = ⊥
+IsDone act = Unit {0}
 
 -- A law of turns. `At past site` is what holds of a site after what was done so far. `Goes past effect` is what holds of an
 -- effect that began after what was done so far. Each other field is one call, or one way in which a turn changes a site, and
@@ -102,6 +125,12 @@ pub record CallLaw (key : Key) : Type 1 where
   -- what a consumer learns of messages that it received
   pub Hears : Core → List Got → Type 0
   pub hears_none : (c : Core) → Hears c []
+  -- what holds of an actor that wakes, and of one that has acted
+  pub Woken : Core → ℕ → Type 0
+  pub Acted : Core → ℕ → Type 0
+  -- what holds of an actor after its turn among the actors of its site, and of its act
+  pub Stands : Queue → List Actor → Actor → Type 0
+  pub May : Core → Actor → Act → Type 0
   -- calls of a queue, each with its rows
   pub gives :
       (p : Past) (c : Core) (agent max : ℕ) (timeout : Option ℕ) (set : ℕ) → At p c
@@ -109,27 +138,26 @@ pub record CallLaw (key : Key) : Type 1 where
   pub changes : (p : Past) (a : Actor) (c : Core) (text : List ℕ) (timeout : ℕ) → At p c → Goes p (change_made key a c text timeout (read_receipt text)).effect
   pub deletes : (p : Past) (a : Actor) (c : Core) (text : List ℕ) → At p c → Goes p (delete_made key a c text (read_receipt text)).effect
   pub sends :
-      (p : Past) (a : Actor) (c : Core) (body : List ℕ) (delay : Option ℕ) (group id : Option (List ℕ)) → At p c
+      (p : Past) (a : Actor) (c : Core) (body : List ℕ) (delay : Option ℕ) (group id : Option (List ℕ)) → May c a (acts.Send body delay group id) → At p c
       → Goes p (send_made key a c body (sends c.queue.settings.kind c.queue key.at body delay group id)).effect
   -- words drawn
   pub draws : (p : Past) (c : Core) (hosts : ℕ) → At p c → At p (record c { draws = (drawn_uniform 0 hosts c.draws).1 })
   -- tasks
   pub starts : (p : Past) (c : Core) (n : ℕ) (t : Task) → task_numbered n c ≡ Some t → At p c → At p (with_task c (record t { move = task_started t.move key.at }))
   pub cancels : (p : Past) (c : Core) (n : ℕ) (t : Task) → task_numbered n c ≡ Some t → At p c → At p (with_task c (record t { move = record t.move { status = Cancelled } }))
-  -- actors: what holds of one after its turn among the actors of its site, and of its act; its poll begins to wait; its service ends
-  pub Stands : Queue → List Actor → Actor → Type 0
-  pub May : Core → Act → Type 0
+  -- actors: one has its turn; its poll begins to wait; its service ends
   pub turns :
-      (p : Past) (n : ℕ) (c : Core) (a : Actor) (w : Answer) → actor_numbered n c ≡ Some a → IsTold Hears c w → At p c
-      → At p (with_actor c (next a key.at w).1) × Stands c.queue (with_actor c (next a key.at w).1).actors (next a key.at w).1 × May (with_actor c (next a key.at w).1) (next a key.at w).0
+      (p : Past) (n : ℕ) (c : Core) (a : Actor) (w : Answer) → actor_numbered n c ≡ Some a → IsTold Hears Woken Acted c n w → At p c
+      → At p (with_actor c (next a key.at w).1) × Stands c.queue (with_actor c (next a key.at w).1).actors (next a key.at w).1 × May (with_actor c (next a key.at w).1) (next a key.at w).1 (next a key.at w).0
+  pub acted : (p : Past) (a : Actor) (c : Core) (x : Act) → IsDone x → Stands c.queue c.actors a → May c a x → At p c → Goes p (act_made key a c x).effect → Acted (act_made key a c x).effect.core a.number
   pub polls : (p : Past) (a : Actor) (c : Core) (max wait : ℕ) (timeout : Option ℕ) → (wait == 0) ≡ false → Stands c.queue c.actors a → At p c → At p (with_poll key a c max wait timeout)
-  pub serves : (p : Past) (a : Actor) (c : Core) (id : MessageId) (r : Receipt) (failed : Bool) (forwards : List Outbound) → May c (acts.Serve id r failed forwards) → At p c → Goes p (serve_made key a c id r failed forwards).effect
+  pub serves : (p : Past) (a : Actor) (c : Core) (id : MessageId) (r : Receipt) (failed : Bool) (forwards : List Outbound) → May c a (acts.Serve id r failed forwards) → At p c → Goes p (serve_made key a c id r failed forwards).effect
 
 module _ (key : Key) (law : CallLaw key) where
-  open law use {Past, At, Goes, Hears, after, done, joins, quiet, nothing, Stands, May}
+  open law use {Past, At, Goes, Hears, Woken, Acted, after, done, joins, quiet, nothing, Stands, May}
 
-  abbrev pub Told : Core → Answer → Type 0
-  Told = IsTold Hears
+  abbrev pub Told : Core → ℕ → Answer → Type 0
+  Told = IsTold Hears Woken Acted
 
   says_so : (p : Past) (c d : Core) (r : Row) → IsNameless key c r → At p c → At p d → Goes p (says d r)
   says_so p c d r i h k = quiet p c d r i h k
@@ -144,10 +172,10 @@ module _ (key : Key) (law : CallLaw key) where
   -- acts
   pub record Makes (p : Past) (m : Made) : Type 0 where
     pub goes : Goes p m.effect
-    pub told : Told m.effect.core m.answer
+    pub told : IsHeard Hears m.effect.core m.answer
 
   plainly : (p : Past) (m : Made) → IsBare m.answer → Goes p m.effect → Makes p m
-  plainly p m b g = record { goes = g; told = bare_told Hears law.hears_none m.effect.core m.answer b }
+  plainly p m b g = record { goes = g; told = bare_heard Hears law.hears_none m.effect.core m.answer b }
 
   none_goes : (p : Past) (a : Actor) (c : Core) (max wait : ℕ) (timeout : Option ℕ) → Stands c.queue c.actors a → At p c → Makes p (receive_none key a c max wait timeout)
   none_goes p a c max wait timeout s h =
@@ -210,9 +238,9 @@ module _ (key : Key) (law : CallLaw key) where
   serves_goes p a c id r true os g = plainly p _ tt g
   serves_goes p a c id r false os g = plainly p _ tt g
 
-  pub act_goes : (p : Past) (a : Actor) (c : Core) (x : Act) → Stands c.queue c.actors a → May c x → At p c → Makes p (act_made key a c x)
+  pub act_goes : (p : Past) (a : Actor) (c : Core) (x : Act) → Stands c.queue c.actors a → May c a x → At p c → Makes p (act_made key a c x)
   unfolding act_made
-  act_goes p a c (acts.Send body delay group id) s m h = plainly p _ tt (law.sends p a c body delay group id h)
+  act_goes p a c (acts.Send body delay group id) s m h = plainly p _ tt (law.sends p a c body delay group id m h)
   act_goes p a c (acts.Receive max wait timeout) s m h = as_goes c.queue.settings.kind p a c max wait timeout s h
   act_goes p a c (acts.Delete text) s m h = deletes_goes p a c text (read_receipt text) (law.deletes p a c text h)
   act_goes p a c (acts.Change text timeout) s m h = changes_goes p a c text timeout (read_receipt text) (law.changes p a c text timeout h)
@@ -229,26 +257,27 @@ module _ (key : Key) (law : CallLaw key) where
   abbrev pub Follows : (Core → Effect) → Type 0
   Follows f = (p : Past) (c : Core) → At p c → Goes p (f c)
 
-  abbrev pub FollowsOn : Answer → (Core → Effect) → Type 0
-  FollowsOn w f = (p : Past) (c : Core) → Told c w → At p c → Goes p (f c)
+  abbrev pub FollowsOn : ℕ → Answer → (Core → Effect) → Type 0
+  FollowsOn n w f = (p : Past) (c : Core) → Told c n w → At p c → Goes p (f c)
 
-  on : (more : Answer → Core → Effect) (p : Past) (a : Actor) (c : Core) (x : Act) → ((w : Answer) → FollowsOn w (more w)) → Stands c.queue c.actors a → May c x → At p c → Goes p (and_then (act_made key a c x).effect (more (act_made key a c x).answer))
-  on more p a c x f s m h =
+  on : (more : Answer → Core → Effect) (n : ℕ) (p : Past) (a : Actor) (c : Core) (x : Act) → IsDone x → a.number ≡ n → ((w : Answer) → FollowsOn n w (more w)) → Stands c.queue c.actors a → May c a x → At p c → Goes p (and_then (act_made key a c x).effect (more (act_made key a c x).answer))
+  on more n p a c x i e f s m h =
       let did : Makes p (act_made key a c x) = act_goes p a c x s m h in
       follows p (act_made key a c x).effect (more (act_made key a c x).answer)
-      (λ q k. f (act_made key a c x).answer q (act_made key a c x).effect.core did.told k) did.goes
+      (λ q k. f (act_made key a c x).answer q (act_made key a c x).effect.core (heard_told Hears Woken Acted (act_made key a c x).effect.core n (act_made key a c x).answer did.told (subst (λ j. Acted (act_made key a c x).effect.core j) e (law.acted p a c x i s m h did.goes))) k) did.goes
 
-  pub next_goes : (more : Answer → Core → Effect) (p : Past) (c : Core) (x : Act) (a : Actor) → ((w : Answer) → FollowsOn w (more w)) → Stands c.queue (with_actor c a).actors a → May (with_actor c a) x → At p (with_actor c a) → Goes p (acts_next more key c (x, a))
-  next_goes more p c acts.Nothing a f s m h = nothing p (with_actor c a) h
-  next_goes more p c x a f s m h = on more p a (with_actor c a) x f s m h
+  pub next_goes : (more : Answer → Core → Effect) (n : ℕ) (p : Past) (c : Core) (x : Act) (a : Actor) → a.number ≡ n → ((w : Answer) → FollowsOn n w (more w)) → Stands c.queue (with_actor c a).actors a → May (with_actor c a) a x → At p (with_actor c a) → Goes p (acts_next more key c (x, a))
+  next_goes more n p c acts.Nothing a e f s m h = nothing p (with_actor c a) h
+  next_goes more n p c x a e f s m h = on more n p a (with_actor c a) x tt e f s m h
 
-  found_goes : (more : Answer → Core → Effect) (p : Past) (n : ℕ) (w : Answer) (c : Core) (o : Option Actor) → actor_numbered n c ≡ o → ((v : Answer) → FollowsOn v (more v)) → Told c w → At p c → Goes p (acts_found more key w c o)
+  found_goes : (more : Answer → Core → Effect) (p : Past) (n : ℕ) (w : Answer) (c : Core) (o : Option Actor) → actor_numbered n c ≡ o → ((v : Answer) → FollowsOn n v (more v)) → Told c n w → At p c → Goes p (acts_found more key w c o)
   found_goes more p n w c None e f t h = nothing p c h
   found_goes more p n w c (Some a) e f t h =
       let x = law.turns p n c a w e t h in
-      next_goes more p c (next a key.at w).0 (next a key.at w).1 f x.1 x.2 x.0
+      let own : (next a key.at w).1.number ≡ n = (next_decides key.at a w).number ∙ eqb-true a.number n (find_picked (is_actor n) c.actors a e) in
+      next_goes more n p c (next a key.at w).0 (next a key.at w).1 own f x.1 x.2 x.0
 
-  pub most_goes : (most n : ℕ) (w : Answer) → FollowsOn w (acts_most most key n w)
+  pub most_goes : (most n : ℕ) (w : Answer) → FollowsOn n w (acts_most most key n w)
   most_goes zero n w p c t h = nothing p c h
   most_goes (suc most) n w p c t h = found_goes (acts_most most key n) p n w c (actor_numbered n c) refl (most_goes most n) t h
 
@@ -264,6 +293,8 @@ module _ (key : Key) (law : CallLaw key) where
 pub record DueLaw (key : Key) (law : CallLaw key) : Type 1 where
   -- what may be said of a site at which something of this class is due
   pub IsDue : Class → Core → Type 0
+  -- an actor wakes
+  pub woken : (c : Core) → IsDue classes.Wake c → law.Woken c key.agent
   -- waiting polls: the first is answered, and one ends
   pub answers : (p : law.Past) (c : Core) → law.At p c → law.At p (without_poll c)
   pub ends : (p : law.Past) (c : Core) → law.At p c → law.At p (record c { polls = without (ends_at key) c.polls })
@@ -317,7 +348,7 @@ module _ (key : Key) (law : CallLaw key) (due : DueLaw key law) where
       let e : Effect = says left (receive_row key c key.agent answers.Empty) in
       follows key law p e (told key key.agent (told_by.Got [])) (λ q k. most_goes key law 3 key.agent (told_by.Got []) q left (law.hears_none left) k)
       (says_so key law p c left _ (record { at_key = refl; at_site = refl; silent = λ o. refl; nameless = refl; kind = tt }) h (due.ends p c h))
-  class_goes classes.Wake p c d h = most_goes key law 3 key.agent (told_by.Wake (woken_by c (actor_numbered key.agent c))) p c tt h
+  class_goes classes.Wake p c d h = most_goes key law 3 key.agent (told_by.Wake (woken_by c (actor_numbered key.agent c))) p c (due.woken c d) h
   class_goes classes.Sample p c d h = says_so key law p c (record c { samples = c.samples + 1 }) _ (record { at_key = refl; at_site = refl; silent = λ o. refl; nameless = refl; kind = tt }) h (due.samples p c h)
   class_goes classes.Step p c d h = step_goes p c (task_numbered key.agent c) refl h
 

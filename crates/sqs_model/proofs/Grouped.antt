@@ -32,7 +32,7 @@ not_both l k y apart of =
     ] refl
 
 -- leaders of different groups
-abbrev Leaders : List Message → Type 0
+abbrev pub Leaders : List Message → Type 0
 Leaders [] = Unit {0}
 Leaders (l ∷ ls) = All (λ k. same_group k l ≡ false) ls × Leaders ls
 

@@ -34,12 +34,12 @@ ascends_filter number p n (x ∷ xs) a =
       | false ↦ ascends_lower number n (number x + 1) (filter p xs) (omega arith) (ascends_filter number p (number x + 1) xs a.1)
     ]
 
-ascends_map : {A B : Type 0} (number : B → ℕ) (f : A → B) (n : ℕ) (xs : List A) → Ascends (λ x. number (f x)) n xs → Ascends number n (map f xs)
+pub ascends_map : {A B : Type 0} (number : B → ℕ) (f : A → B) (n : ℕ) (xs : List A) → Ascends (λ x. number (f x)) n xs → Ascends number n (map f xs)
 ascends_map number f n [] a = tt
 ascends_map number f n (x ∷ xs) a = (a.0, ascends_map number f (number (f x) + 1) xs a.1)
 
 -- an actor's first wake
-wakes_first : (s : Scenario) (n : ℕ) (settings : ActorSettings) (r : Role) → settings.role ≡ r → WakesFor r (opening_actor s.seed (n, settings))
+pub wakes_first : (s : Scenario) (n : ℕ) (settings : ActorSettings) (r : Role) → settings.role ≡ r → WakesFor r (opening_actor s.seed (n, settings))
 wakes_first s n settings (Script script) h = rw h refl
 wakes_first s n settings (Producer p) h = tt
 wakes_first s n settings (Consumer c) h = tt

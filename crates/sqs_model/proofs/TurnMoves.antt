@@ -37,7 +37,7 @@ use Rattle.sqs_model.specs.declared.acts.Answer.TheVariants as told_by
 use Rattle.sqs_model.specs.Dues.{poll_key}
 
 -- a script's wake is for its next call, however many polls it had
-polls_wake : (r : Role) (a : Actor) (n : ℕ) → WakesFor r a → WakesFor r (record a { polls = n })
+pub polls_wake : (r : Role) (a : Actor) (n : ℕ) → WakesFor r a → WakesFor r (record a { polls = n })
 polls_wake (Script script) a n w = w
 polls_wake (Producer p) a n w = w
 polls_wake (Consumer c) a n w = w

@@ -24,7 +24,7 @@ use Rattle.sqs_model.specs.declared.acts.Act.{Act}
 use Rattle.sqs_model.specs.declared.acts.Answer.{Answer}
 use Rattle.sqs_model.specs.declared.acts.Answer.TheVariants as told_by
 use Rattle.sqs_model.specs.Actor.{Actor, next}
-use Rattle.sqs_model.specs.Acts.{act_made, all_came_back, came_back, change_answered, change_made, change_row, delete_done, delete_made, forward_made, forwards_made, given, got_row, receive_some, redrive_by, send_made, sends, serve_made, with_poll}
+use Rattle.sqs_model.specs.Acts.{act_made, all_came_back, came_back, change_answered, change_made, change_row, delete_done, delete_made, forward_made, forward_row, forwards_made, given, got_row, receive_some, redrive_by, send_made, sends, serve_made, with_poll}
 use Rattle.sqs_model.specs.Arrive.{arrived}
 use Rattle.sqs_model.specs.Calls.{change, delete}
 use Rattle.sqs_model.specs.Draw.{drawn_uniform}
@@ -193,23 +193,28 @@ module _ (key : Key) (law : TurnLaw key) where
         quiet = λ p c d r i h k. quiet p [] [] c d (r ∷ []) h (record { at_key = i.at_key; at_site = i.at_site; silent = i.silent }, tt) k;
         Hears = λ c gots. Unit {0};
         hears_none = λ c. tt;
+        Woken = λ c n. Unit {0};
+        Acted = λ c n. Unit {0};
         gives = λ p c agent max timeout set h. (given_goes p c agent timeout (give_most c.queue key.at max timeout set) h (law.gives p c max timeout set h), tt);
         changes = λ p a c text timeout h. changes_by p a c text timeout (read_receipt text) h;
         deletes = λ p a c text h. deletes_by p a c text (read_receipt text) h;
-        sends = law.sends;
+        sends = λ p a c body delay group id m h. law.sends p a c body delay group id h;
         draws = law.draws;
         starts = law.starts;
         cancels = law.cancels;
         Stands = λ q actors a. Stands actors a;
-        May = λ c x. Sends Sent x;
+        May = λ c a x. Sends Sent x;
         turns = λ p n c a w e t h. law.turns p n c a w e h;
+        acted = λ p a c x i s m h g. tt;
         polls = law.polls;
         serves = λ p a c id r b os m h. serves_by p a c id r b os m h;
       }
 
-  told_any : (c : Core) (w : Answer) → IsTold (λ _ _. Unit {0}) c w
-  told_any c (told_by.Got gots) = tt
-  told_any c w = tt
+  told_any : (c : Core) (n : ℕ) (w : Answer) → IsTold (λ _ _. Unit {0}) (λ _ _. Unit {0}) (λ _ _. Unit {0}) c n w
+  told_any c n (told_by.Got gots) = tt
+  told_any c n (told_by.Wake st) = tt
+  told_any c n told_by.Waiting = tt
+  told_any c n told_by.Other = tt
 
   -- what calls.. the walk by calls says
   abbrev pub Follows : (Core → Effect) → Type 0
@@ -222,10 +227,10 @@ module _ (key : Key) (law : TurnLaw key) where
   act_goes p a c x s o h = (walk.act_goes key by_calls p a c x s o h).goes
 
   pub next_goes : (more : Answer → Core → Effect) (p : Past) (c : Core) (x : Act) (a : Actor) → ((w : Answer) → Follows (more w)) → Stands (with_actor c a).actors a → Sends Sent x → At p [] (with_actor c a) → Goes p [] (acts_next more key c (x, a))
-  next_goes more p c x a f s o h = walk.next_goes key by_calls more p c x a (λ w q d t k. f w q d k) s o h
+  next_goes more p c x a f s o h = walk.next_goes key by_calls more a.number p c x a refl (λ w q d t k. f w q d k) s o h
 
   pub most_goes : (most n : ℕ) (w : Answer) → Follows (acts_most most key n w)
-  most_goes most n w p c h = walk.most_goes key by_calls most n w p c (told_any c w) h
+  most_goes most n w p c h = walk.most_goes key by_calls most n w p c (told_any c n w) h
 
   pub poll_goes : (p : Past) (poll : Poll) (c : Core) (x : Queue × List Got) → At p [] (without_poll c) → Gives (At p) (without_poll c) poll.timeout x → Goes p [] (poll_answered key poll c x)
   poll_goes p poll c x h k = walk.poll_goes key by_calls p poll c x (given_goes p (without_poll c) poll.actor poll.timeout x h k, tt)
@@ -270,6 +275,7 @@ module _ (key : Key) (law : TurnLaw key) (due : HandlingLaw key law) where
   due_by_calls =
       record {
         IsDue = IsDue key law due;
+        woken = λ c d. tt;
         answers = due.answers;
         ends = due.ends;
         expires = due.expires;

@@ -7,7 +7,7 @@ ghost use Rattle.sqs_model.specs.declared.agents.Serving.TheVariants.{Each};
 ghost use Rattle.sqs_model.specs.Actor.{woken, idle as the_idle, serving as the_serving, serves as the_serves, settles as the_settles, fails_service as the_fails_service, backs_off as the_backs_off, backoff_at as the_backoff_at, goes_on as the_goes_on, drawn_failure, has_failed as the_has_failed, outcome as the_outcome, rests as the_rests, consumer_wake as the_consumer_wake, consumer_got as the_consumer_got, consumer_told as the_consumer_told};
 ghost use Rattle.sqs_model.specs.Answers.{most_count};
 ghost use Rattle.sqs_model.specs.Longest.{longest_timeout};
-ghost use Rattle.sqs_model.specs.Valid.{IsConsumer, IsLatency, MayBeForward};
+ghost use Rattle.sqs_model.specs.Valid.{IsConsumer, MayBeForward};
 ghost use Rattle.sqs_redrive.specs.Received.{most_received};
 ghost use Rattle.sim_actor.specs.Lives.{Becomes, Changes, Decides, DecidesAt, DoesNothing, Drawn, EndsFirst, EndsThis, FollowsUp, Lived, lived, EndsAnywhere, begins_or_fails, begins_service, drawn_service, ends_all, ends_as, ends_held, ends_or_fails, in_service, Lives};
 

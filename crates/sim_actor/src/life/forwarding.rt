@@ -1,10 +1,8 @@
 //! What a consumer forwards.
 ghost use Rattle.std.specs.Prelude.{◌≡◌, ◌<◌, ◌≤◌, ◌+◌, ◌↔◌, IfOk, length, true};
-ghost use Rattle.sqs_message.specs.declared.ids.MessageId.{MessageId};
-ghost use Rattle.sqs_model.specs.Actor.{has_forwarded};
 ghost use Rattle.sqs_model.specs.Answers.{most_count};
 ghost use Rattle.sqs_model.specs.Valid.{IsForwarding, IsLatency};
-ghost use Rattle.sim_actor.specs.Lives.{Forwards, HasRoom, SendsOne, SendsAll, Lived, load_of};
+ghost use Rattle.sim_actor.specs.Lives.{Forwards, HasRoom, SendsOne, SendsAll, load_of};
 
 use super::Life;
 use sim_clock::Refusal;
@@ -13,7 +11,7 @@ use sqs_model::{Forwarding, MOST_COUNT, Outbounds};
 use sqs_redrive::{Got, Latency, Load, Outbound};
 use std::alloc::{AllocError, Global};
 
-// The load of a forward of a message, which goes on to be there.
+// The load of a forward of a message, which keeps its own.
 fn copied_load(alloc: Global, got: &Got) -> Result<Load, AllocError>
     ensures { IfOk result (λ load. load ≡ load_of got.now) }
 {

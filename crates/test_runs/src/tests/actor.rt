@@ -10,7 +10,7 @@ use sqs_message::{
     Template, Text,
 };
 use sqs_model::{
-    Act, ActorSettings, ConsumerSettings, Distribution, Forwarding, Groups, Outage,
+    Act, ActorSettings, ConsumerSettings, Distribution, Forwarding, Groups, Outage, Outbounds,
     ProducerSettings, Role, Serving, Stretch, WeightedGroup,
 };
 use sqs_redrive::{Batch, Got, Latency, Load, Outbound};
@@ -84,19 +84,19 @@ fn show_service(
     out: &mut String,
     receipt: Receipt,
     failed: bool,
-    forward: &Option<Outbound>,
+    forwards: &mut Outbounds,
 ) -> Shown {
     out.push_str("serve ")?;
     show_receipt(out, receipt)?;
     write!(out, " {failed}")?;
-    match forward {
-        None => Ok(()),
-        Some(sent) => show_transfer(out, sent),
+    for sent in forwards.by_ref() {
+        show_transfer(out, &sent)?;
     }
+    Ok(())
 }
 
-// An act in a line.
-fn show(out: &mut String, act: &Act) -> Shown {
+// An act in a line. The transfers of the act are taken.
+fn show(out: &mut String, act: &mut Act) -> Shown {
     match act {
         Act::Send {
             body,
@@ -136,9 +136,9 @@ fn show(out: &mut String, act: &Act) -> Shown {
         Act::Serve {
             receipt,
             failed,
-            forward,
+            forwards,
             ..
-        } => show_service(out, *receipt, *failed, forward),
+        } => show_service(out, *receipt, *failed, forwards),
         Act::Nothing => out.push_str("nothing"),
     }
 }
@@ -205,12 +205,12 @@ type Step = (u32, Told, &'static str, Option<u64>);
 // Takes an actor through the steps of a life.
 fn live(rt: &impl Abort, alloc: Global, actor: &mut Actor, steps: &[Step]) {
     for &(now, told, wanted, wake) in steps {
-        let act = match reply(rt, alloc, told) {
+        let mut act = match reply(rt, alloc, told) {
             None => actor.woken(u64::from(now)).expect(rt, "an act"),
             Some(reply) => act_of(actor.answered(u64::from(now), reply).expect(rt, "an act")),
         };
         let mut line = String::new(alloc);
-        show(&mut line, &act).expect(rt, "memory");
+        show(&mut line, &mut act).expect(rt, "memory");
         same(rt, (now, line.as_str(), actor.wake()), (now, wanted, wake));
     }
 }
@@ -282,14 +282,13 @@ fn producer(body: Template, gap_min: u32, groups: Option<Groups>, ids: bool) -> 
     }
 }
 
-// A consumer at queue 2 that serves for 1 to 100 ms and waits for 1,000 after it got nothing. Its
-// forwards take from `least` to `greatest` milliseconds.
-fn consumer(alloc: Global, fail_permille: u64, least: u64, greatest: u64) -> ActorSettings
+// A consumer at queue 2 that serves for 1 to 100 ms, waits for 1,000 after it got nothing, and
+// forwards.
+fn consumer(alloc: Global, fail_permille: u64, forwarding: Forwarding) -> ActorSettings
     requires failures { fail_permille ≤ 1000 }
-    requires latency { IsLatency (record { least = least; greatest = greatest }) }
+    requires forwarding { IsForwarding forwarding }
     ensures { IsRole result.role }
 {
-    let latency = Latency { least, greatest };
     ActorSettings {
         home: 2,
         role: Role::Consumer(ConsumerSettings {
@@ -303,7 +302,7 @@ fn consumer(alloc: Global, fail_permille: u64, least: u64, greatest: u64) -> Act
             fail_service: None,
             fail_permille,
             idle: 1000,
-            forward: Some(Forwarding { to: 3, latency }),
+            forward: Some(forwarding),
             stop: None,
             fails_on: None,
             outages: Listed::new(Vec::new(alloc)),
@@ -312,6 +311,17 @@ fn consumer(alloc: Global, fail_permille: u64, least: u64, greatest: u64) -> Act
             jitter: false,
             heartbeat: None,
         }),
+    }
+}
+
+// A forward to queue 3 that takes from `least` to `greatest` milliseconds.
+fn to_three(rt: &impl Abort, alloc: Global, least: u64, greatest: u64) -> Forwarding
+    requires { IsLatency (record { least = least; greatest = greatest }) }
+    ensures { IsForwarding result }
+{
+    Forwarding {
+        to: Listed::new(vec![in alloc; 3].expect(rt, "memory")),
+        latency: Latency { least, greatest },
     }
 }
 
@@ -459,13 +469,8 @@ fn consumer_forwards_deletes_fails_and_rests(rt: HostRuntime) {
         (6166, Told::Wake, receive, None),
         (6166, Told::Other, "nothing", Some(7166)),
     ];
-    consume(
-        &rt,
-        rt.alloc(),
-        consumer(rt.alloc(), 563, 500, 500),
-        life,
-        5,
-    );
+    let settings = consumer(rt.alloc(), 563, to_three(&rt, rt.alloc(), 500, 500));
+    consume(&rt, rt.alloc(), settings, life, 5);
 }
 
 #[test]
@@ -481,7 +486,31 @@ fn consumer_draws_the_latency_after_the_chance(rt: HostRuntime) {
         (68, Told::Other, "nothing", Some(84)),
         (84, Told::Wake, second, None),
     ];
-    consume(&rt, rt.alloc(), consumer(rt.alloc(), 500, 1, 100), life, 2);
+    let settings = consumer(rt.alloc(), 500, to_three(&rt, rt.alloc(), 1, 100));
+    consume(&rt, rt.alloc(), settings, life, 2);
+}
+
+#[test]
+fn consumer_forwards_to_each_queue_of_its_list(rt: HostRuntime) {
+    // The words of agent 0 under seed 0 give in turn: a service of 68 ms; 563 of 1,000; latencies
+    // of 90, 16 and 72 ms.
+    let serve =
+        "serve r-2-4-1 false at 158 from 0 2 number 0 to 3 x at 84 from 0 2 number 1 to 2 x at 140 from 0 2 number 2 to 3 x";
+    let life: &[Step] = &[
+        (0, Told::Two, "nothing", Some(68)),
+        (68, Told::Wake, serve, None),
+        (68, Told::Other, "delete r-2-4-1", None),
+    ];
+    let forwarding = Forwarding {
+        to: Listed::new(vec![in rt.alloc(); 3, 2, 3].expect(&rt, "memory")),
+        latency: Latency {
+            least: 1,
+            greatest: 100,
+        },
+    };
+    let settings = consumer(rt.alloc(), 500, forwarding);
+    let mut actor = Actor::new(rt.alloc(), 0, settings, 0);
+    live(&rt, rt.alloc(), &mut actor, life);
 }
 
 // A consumer at queue 2 that serves for 1,500 ms, with a heartbeat each second. Services of bodies

@@ -1,0 +1,94 @@
+-- FIFO: the messages of a group are received in the order in which they came, and none while another one is in flight.
+use Rattle.std.specs.Prelude.{Bool, List, None, Option, Some, false, is_none, slice_get, true, ℕ, ◌&&◌, ◌<◌, ◌≡◌}
+use Rattle.std.proofs.Common.{ap, arith, refl, subst, sym, true≢false, ◌∙◌}
+use Rattle.std.proofs.lemmas.Bool.{and_parts}
+use Rattle.sim_clock.specs.declared.key.Key.{Key}
+use Rattle.sqs_message.specs.declared.ids.MessageId.{MessageId}
+use Rattle.sqs_message.specs.declared.message.Message.{Message}
+use Rattle.sqs_message.specs.declared.row.Row.{Row}
+use Rattle.sqs_model.specs.Progress.{IsSoundScenario}
+use Rattle.sqs_model.specs.Queue.{Queue, id_of, numbered, same_group}
+use Rattle.sqs_model.specs.Run.{IsRunOf, Run}
+use Rattle.sqs_model.specs.Scenario.{Scenario}
+use Rattle.sqs_model.specs.Texts.{same_text_decides}
+use Rattle.sqs_laws.specs.Groups.{IsByCall, WasGiven}
+use Rattle.sqs_laws.specs.Laws.{FifoOrder, fifo_at, is_fifo}
+use Rattle.sqs_laws.specs.Words.{EachRow, flight, flying, has_left}
+use Rattle.sqs_laws.specs.Words as words
+use Rattle.sqs_laws.proofs.Calls.{found_old}
+use Rattle.sqs_laws.proofs.End as end
+use Rattle.sqs_laws.proofs.Flights.{flights}
+use Rattle.sqs_laws.proofs.Moves.{Does, IsNext, IsOfGroup, IsStocked, Move, Receives, changes, comes, ends, receives, redrives, releases, stays}
+use Rattle.sqs_laws.proofs.Sends.{sends}
+use Rattle.sqs_laws.proofs.Worlds.{RowLaw, both, every_row_by}
+
+module _ (s : Scenario) (sound : IsSoundScenario s) where
+  abbrev told : RowLaw s
+  told = both s (sends s) (both s (end.the_end s) (flights s))
+
+  -- two messages of a group, of which one is received: what the law says of the other one
+  record IsAsTold (before : List Row) (r : Row) (m n : MessageId) : Type 0 where
+    pub earlier : n.number < m.number → has_left n before ≡ false → IsByCall r (flight n before)
+    pub later : m.number < n.number → flying n before ≡ false
+
+  abbrev Tells : List Row → Row → Type 0
+  Tells before r = (m : MessageId) → r.message ≡ Some m → (words.received r && fifo_at s r) ≡ true → (n : MessageId) (g : List ℕ) → n.site ≡ r.queue → WasGiven s before m g → WasGiven s before n g → IsAsTold before r m n
+
+  module _ (rows : List Row) (key : Key) (q : Queue) (r : Row) (p : Queue) (d : Move key q r p) (o : IsOfGroup s rows q r p) (k : IsStocked q) (h : told.Holds rows q) where
+    fifo : fifo_at s r ≡ true → is_fifo q.settings.kind ≡ true
+    fifo e =
+        let own : slice_get s.queues r.queue ≡ Some q.settings = ap (λ n. slice_get s.queues n) d.at_site ∙ h.0.settings in
+        sym (ap (λ x. elim x as (λ _. Bool) [ None ↦ false | Some y ↦ is_fifo y.kind ]) own) ∙ e
+
+    group_is : is_fifo q.settings.kind ≡ true → (i : ℕ) (m : Message) (g : List ℕ) → numbered i q.records ≡ Some m → WasGiven s rows (id_of q i) g → m.group ≡ Some g
+    group_is f i m g e (by, t, y) = (h.0.told i m e by t).group f sound.actors g y
+
+    alike : (a b : Message) (g : List ℕ) → a.group ≡ Some g → b.group ≡ Some g → same_group a b ≡ true
+    alike a b g x y = (same_text_decides a.group b.group).1 (x ∙ sym y)
+
+    other : (x : Receives key q r p) (i : ℕ) (g : List ℕ) → is_fifo q.settings.kind ≡ true → WasGiven s rows (id_of q x.number) g → WasGiven s rows (id_of q i) g → (z : Option Message) → numbered i q.records ≡ z → IsAsTold rows r (id_of q x.number) (id_of q i)
+    other x i g f a b None e =
+        record {
+          earlier = λ l t.
+              let old : x.number < q.arrivals = found_old q x.number x.one k x.names.there in
+              let gone : has_left (id_of q i) rows ≡ true = h.1.0.left i (omega (arith, l, old)) ∙ ap is_none e in
+              absurd (true≢false (sym gone ∙ t));
+          later = λ l. h.1.1.rests i e;
+        }
+    other x i g f a b (Some m) e =
+        let next : IsNext rows q r x.number x.one = o.next x.tells.received_so f x.number x.one x.names.message x.names.there in
+        let same : same_group x.one m ≡ true = alike x.one m g (group_is f x.number x.one g x.names.there a) (group_is f i m g e b) in
+        record {
+          earlier = λ l t. next.before i m e same l;
+          later = λ l. h.1.1.flies i m e ∙ next.after i m e same l;
+        }
+
+    of_site : (n : MessageId) → n.site ≡ r.queue → id_of q n.number ≡ n
+    of_site n e = ap (λ y. record { site = y; number = n.number }) (sym d.at_site ∙ sym e)
+
+    not_received : words.received r ≡ false → (words.received r && fifo_at s r) ≡ true → ⊥
+    not_received a t = true≢false (sym (and_parts (words.received r) (fifo_at s r) t).0 ∙ a)
+
+    told_by : Does key q r p → Tells rows r
+    told_by (receives x) m e t n g w a b =
+        let is : id_of q x.number ≡ m = cc in
+        let that : id_of q n.number ≡ n = of_site n w in
+        let f : is_fifo q.settings.kind ≡ true = fifo (and_parts (words.received r) (fifo_at s r) t).1 in
+        subst (IsAsTold rows r m) that
+        (subst (λ y. IsAsTold rows r y (id_of q n.number)) is
+        (other x n.number g f (subst (λ y. WasGiven s rows y g) (sym is) a) (subst (λ y. WasGiven s rows y g) (sym that) b) (numbered n.number q.records) refl))
+    told_by (stays x) m e t n g w a b = absurd (not_received x.tells.received_so t)
+    told_by (comes x) m e t n g w a b = absurd (not_received x.tells.received_so t)
+    told_by (changes x) m e t n g w a b = absurd (not_received x.tells.received_so t)
+    told_by (releases x) m e t n g w a b = absurd (not_received x.tells.received_so t)
+    told_by (redrives x) m e t n g w a b = absurd (not_received x.tells.received_so t)
+    told_by (ends x) m e t n g w a b = absurd (not_received x.tells.received_so t)
+
+  -- the law
+  pub groups_are_in_order : (x : Run) → IsRunOf s x → FifoOrder s x.rows
+  groups_are_in_order x is =
+      let each : EachRow x.rows Tells = every_row_by s told Tells (λ rows key q r p d g k h j. told_by rows key q r p d g k h d.does) x is in
+      record {
+        before = λ before r after e m i t n g w a b l. (each before r after e m i t n g w a b).earlier l;
+        after = λ before r after e m i t n g w a b l. (each before r after e m i t n g w a b).later l;
+      }

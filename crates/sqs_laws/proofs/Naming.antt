@@ -1,0 +1,44 @@
+-- Rows that name a message, and what one more row makes of its flight.
+use Rattle.std.specs.Prelude.{Bool, List, None, Option, Some, [], cond, false, find, if◌then◌else◌, not, true, ◌&&◌, ◌++◌, ◌==◌, ◌∷◌, ◌≡◌, ◌≢◌, ◌||◌}
+use Rattle.std.proofs.Common.{ap, inl, inr, refl, ◌∙◌}
+use Rattle.std.proofs.Math.Bool.{and-false}
+use Rattle.std.proofs.lemmas.Bool.{eq-eqb, ne_eqb}
+use Rattle.std.proofs.lemmas.List.Sums.{fold-append}
+use Rattle.sqs_message.specs.declared.ids.MessageId.{MessageId}
+use Rattle.sqs_message.specs.declared.row.Row.{Row}
+use Rattle.sqs_model.specs.Accounts.{same_id}
+use Rattle.sqs_model.proofs.Members.{In}
+use Rattle.sqs_laws.specs.Words.{changed, flight, is_release, leaves, names, received}
+
+-- a row that names one message names no other
+pub names_id : (m i : MessageId) (r : Row) → r.message ≡ Some i → names m r ≡ (m.site == i.site && m.number == i.number)
+names_id m i r e = ap (same_id (Some m)) e
+
+pub names_same : (m : MessageId) (r : Row) → r.message ≡ Some m → names m r ≡ true
+names_same m r e = names_id m m r e ∙ (rw (eq-eqb m.site m.site refl, eq-eqb m.number m.number refl) refl)
+
+pub names_other : (m i : MessageId) (r : Row) → r.message ≡ Some i → m.number ≢ i.number → names m r ≡ false
+names_other m i r e d = names_id m i r e ∙ ap (λ b. (m.site == i.site) && b) (ne_eqb m.number i.number d) ∙ and-false (m.site == i.site)
+
+-- the flight of a message with one more row
+abbrev pub flight_on : Bool → Bool → Bool → Option Row → Row → Option Row
+flight_on named begins over f r = if not named then f else (if begins then Some r else (if over then None else f))
+
+pub flight_push : (m : MessageId) (rows : List Row) (r : Row) → flight m (rows ++ r ∷ []) ≡ flight_on (names m r) (received r || changed r) (is_release r.kind || leaves r) (flight m rows) r
+flight_push m rows r = fold-append (λ f x. flight_on (names m x) (received x || changed x) (is_release x.kind || leaves x) f x) None rows (r ∷ [])
+
+-- it begins by a receive that names it; a row that names another leaves it
+pub flight_begins : (m : MessageId) (rows : List Row) (r : Row) → r.message ≡ Some m → received r ≡ true → flight m (rows ++ r ∷ []) ≡ Some r
+flight_begins m rows r e f = flight_push m rows r ∙ (rw (names_same m r e, f) refl)
+
+pub flight_stays : (m : MessageId) (rows : List Row) (r : Row) → names m r ≡ false → flight m (rows ++ r ∷ []) ≡ flight m rows
+flight_stays m rows r e = flight_push m rows r ∙ (rw e refl)
+
+-- what is found is one of them
+pub found_in : {A : Type 0} (p : A → Bool) (xs : List A) (y : A) → find p xs ≡ Some y → In xs y
+found_in p [] y e = cc
+found_in p (x ∷ xs) y e =
+    elim (p x) as (λ b. cond b (Some x) (find p xs) ≡ Some y → In (x ∷ xs) y) [
+      | true ↦ λ f. inl cc
+      | false ↦ λ f. inr (found_in p xs y f)
+    ] e
