@@ -48,6 +48,7 @@ columns_by kinds.Arrive answers.Repeat = has true receipt.Absent detail.From
 columns_by kinds.Expire answers.Expired = has true receipt.Absent detail.Age
 columns_by kinds.Task answers.Completed = has false receipt.Absent detail.Moved
 columns_by kinds.Task answers.Failed = has false receipt.Absent detail.Moved
+columns_by kinds.Scale answers.Ok = has false receipt.Absent detail.Copies
 columns_by kinds.Sample answers.Ok = has false receipt.Absent detail.Counts
 columns_by kind answer = None
 
@@ -67,6 +68,7 @@ detail_form (details.Timeout s) = detail.Timeout
 detail_form (details.Queue n) = detail.Queue
 detail_form (details.Task n) = detail.Task
 detail_form (details.Moved n) = detail.Moved
+detail_form (details.Copies from to) = detail.Copies
 detail_form (details.Counts visible in_flight delayed) = detail.Counts
 
 -- what the last three columns of a row have

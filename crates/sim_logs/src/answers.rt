@@ -19,6 +19,7 @@ pub(crate) fn kind_named(name: &str) -> Option<RowKind> {
         "arrive" => RowKind::Arrive,
         "expire" => RowKind::Expire,
         "task" => RowKind::Task,
+        "scale" => RowKind::Scale,
         "sample" => RowKind::Sample,
         _ => return None,
     };

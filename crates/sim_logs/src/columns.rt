@@ -25,6 +25,7 @@ pub enum DetailForm {
     Queue,
     Task,
     Moved,
+    Copies,
     Counts,
 }
 
@@ -61,6 +62,7 @@ fn detail_form(detail: Detail) -> DetailForm
         Detail::Queue(_) => DetailForm::Queue,
         Detail::Task(_) => DetailForm::Task,
         Detail::Moved(_) => DetailForm::Moved,
+        Detail::Copies { .. } => DetailForm::Copies,
         Detail::Counts { .. } => DetailForm::Counts,
     }
 }
@@ -104,6 +106,7 @@ impl Columns {
             (RowKind::Task, RowAnswer::Completed | RowAnswer::Failed) => {
                 (false, ReceiptForm::Absent, DetailForm::Moved)
             }
+            (RowKind::Scale, RowAnswer::Ok) => (false, ReceiptForm::Absent, DetailForm::Copies),
             (RowKind::Sample, RowAnswer::Ok) => (false, ReceiptForm::Absent, DetailForm::Counts),
             _ => return None,
         };

@@ -34,6 +34,15 @@ pub(crate) fn message(is_there: bool, text: &str) -> Option<Option<MessageId>> {
     Some(Some(MessageId { site, number }))
 }
 
+// Two numbers with a slash between them.
+fn copies(text: &str) -> Option<Detail> {
+    let (from, to) = text.split_once('/')?;
+    Some(Detail::Copies {
+        from: from.parse::<u32>().ok()?,
+        to: to.parse::<u32>().ok()?,
+    })
+}
+
 // Three numbers with slashes between them.
 fn counts(text: &str) -> Option<Detail> {
     let (visible, rest) = text.split_once('/')?;
@@ -59,6 +68,7 @@ pub(crate) fn detail(form: DetailForm, text: &str, numbers: &Numbers) -> Option<
         DetailForm::Queue => Detail::Queue(agent(numbers, text)?),
         DetailForm::Task => Detail::Task(agent(numbers, text)?),
         DetailForm::Moved => Detail::Moved(number(text)?),
+        DetailForm::Copies => copies(text)?,
         DetailForm::Counts => counts(text)?,
     };
     Some(detail)

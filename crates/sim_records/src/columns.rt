@@ -33,6 +33,7 @@ pub(crate) fn kind_word(kind: RowKind) -> Word<'static>
         RowKind::Arrive => Word::new(b"          arrive", 6),
         RowKind::Expire => Word::new(b"          expire", 6),
         RowKind::Task => Word::new(b"            task", 4),
+        RowKind::Scale => Word::new(b"           scale", 5),
         RowKind::Sample => Word::new(b"          sample", 6),
     }
 }
@@ -142,6 +143,7 @@ pub(crate) fn add_detail(line: &mut Line, detail: &Detail, names: &Names) -> Res
             line.number(*number)
         }
         Detail::Queue(number) | Detail::Task(number) => add_name(line, names, *number),
+        Detail::Copies { from, to } => line.pair(*from as u64, *to as u64),
         Detail::Counts {
             visible,
             in_flight,

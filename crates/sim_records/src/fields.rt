@@ -121,6 +121,19 @@ pub(crate) fn digest_before(text: &mut [u8], end: usize, md5: &[u8; 16]) -> usiz
     put_digest(text, end, md5)
 }
 
+/// Two numbers in decimal with a slash between them, for example `1/4`.
+pub(crate) fn pair_before(text: &mut [u8], end: usize, first: u64, second: u64) -> usize
+    requires room { NUMBERS ≤ end }
+    requires within { end ≤ length text.old }
+    ensures written { drop result text.new
+        ≡ with_field (drop end text.old) (decimal first ++ (codes "/" ++ decimal second)) }
+    ensures most { end ≤ result + NUMBERS }
+    ensures before { result < end }
+{
+    let second = put_before(text, end, b'/', second);
+    put_before(text, second, b',', first)
+}
+
 /// Three numbers in decimal with slashes between them, for example `2/1/0`.
 pub(crate) fn counts_before(
     text: &mut [u8],

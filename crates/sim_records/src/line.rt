@@ -10,7 +10,7 @@ ghost use Rattle.sqs_message.specs.Ids.{id_text, origin_text, receipt_text};
 
 use crate::before::{NUMBER, put_field, room_before};
 use crate::fields::{
-    NUMBERS, counts_before, digest_before, number_before, numbered_before, receipt_before,
+    NUMBERS, counts_before, pair_before, digest_before, number_before, numbered_before, receipt_before,
     word_before,
 };
 use crate::names::Names;
@@ -262,6 +262,16 @@ impl Line {
     {
         let end = room_before(&mut self.text, self.start, DIGEST + 1)?;
         self.start = digest_before(&mut self.text, end, md5);
+        Ok(())
+    }
+
+    /// Two numbers in decimal with a slash between them, for example `1/4`.
+    pub(crate) fn pair(&mut self, first: u64, second: u64) -> Result<(), AllocError>
+        ensures { OnOk result (self.new
+            ≡ with_field self.old (decimal first ++ (codes "/" ++ decimal second))) }
+    {
+        let end = room_before(&mut self.text, self.start, NUMBERS)?;
+        self.start = pair_before(&mut self.text, end, first, second);
         Ok(())
     }
 

@@ -36,7 +36,7 @@ fn plain_receipt(receipt: &RowReceipt) -> Option<Option<Receipt>>
 }
 
 // The detail column. It returns where the column begins; none, and no change, if it is a name that
-// is not kept as a word.
+// is not kept as a word, or numbers of copies, which are rare.
 #[inline(always)]
 fn put_detail(text: &mut [u8], end: usize, detail: &Detail, names: &Names) -> Option<usize>
     requires room { NUMBERS ≤ end }
@@ -58,6 +58,7 @@ fn put_detail(text: &mut [u8], end: usize, detail: &Detail, names: &Names) -> Op
             let word = names.word(*number)?;
             Some(word_before(text, end, word))
         }
+        Detail::Copies { .. } => None,
         Detail::Counts {
             visible,
             in_flight,

@@ -1,6 +1,6 @@
 -- What each actor of a text says: its name, its ranges, its home, and what it does there.
 use Rattle.std.proofs.Common.{◌≡◌, ◌∙◌, ℕ, zero, suc, ◌<◌, ◌≤◌, Bool, true, false, codes, List, [], ◌∷◌, length, get_or, map, Option, Some, None, Result, Ok, Err, refl, sym, subst, ap, arith, lit≤}
-use Rattle.std.specs.Prelude.{All, nat_le, ◌&&◌}
+use Rattle.std.specs.Prelude.{All, nat_le, ◌&&◌, ◌-◌}
 use Rattle.std.specs.Option.{is_some}
 use Rattle.toml.specs.Data.{as_array}
 use Rattle.std.proofs.lemmas.Bool.Decides.{Decides-eqb}
@@ -17,7 +17,8 @@ use Rattle.sqs_formats.specs.Keys.{Table, at, has, integer, optional, place_of, 
 use Rattle.sqs_formats.specs.Copies.{copy_name, copy_names}
 use Rattle.sqs_formats.specs.Names.{is_agent_name}
 use Rattle.sqs_formats.specs.Outline.{Outline, actor_place, is_fresh, kin_named, kins_by, kins_named, kind_at, queue_named, queue_number}
-use Rattle.sqs_formats.specs.Actors.{Files, actor, agents_of, copies, calls, calls_by, calls_in, consuming, failing, forward, gap, home_of, producing, role, script_fault, script_file, scripted, sending, service, serving, serving_of, stopping}
+use Rattle.sqs_model.specs.declared.agents.Scaling.{Scaling}
+use Rattle.sqs_formats.specs.Actors.{Files, actor, agents_of, copies, calls, calls_by, calls_in, consuming, failing, forward, gap, home_of, producing, role, scaler, scaling, script_fault, script_file, scripted, sending, service, serving, serving_of, stopping}
 use Rattle.sqs_formats.specs.Script.{script}
 use Rattle.sqs_model.specs.declared.agents.ActorSettings.{ActorSettings}
 use Rattle.sqs_model.specs.declared.agents.Distribution.{Distribution}
@@ -25,10 +26,10 @@ use Rattle.sqs_model.specs.declared.agents.Forwarding.{Forwarding}
 use Rattle.sqs_model.specs.declared.agents.Groups.{Groups}
 use Rattle.sqs_model.specs.declared.agents.ProducerSettings.{ProducerSettings}
 use Rattle.sqs_model.specs.declared.agents.Role.{Role}
-use Rattle.sqs_model.specs.declared.agents.Role.TheVariants.{Consumer, Producer, Script}
+use Rattle.sqs_model.specs.declared.agents.Role.TheVariants.{Consumer, Producer, Scaler, Script}
 use Rattle.sqs_model.specs.declared.agents.Serving.{Serving}
 use Rattle.sqs_model.specs.Longest.{longest_delay, longest_timeout}
-use Rattle.sqs_model.specs.Valid.{Between, IsDistribution, IsOutage, IsServing, MayBeFailService, MayBeForward, MayBeGroups, MayBeHeartbeat, MayBeMoment, MayBeTimeout}
+use Rattle.sqs_model.specs.Valid.{Between, IsDistribution, IsOutage, IsServing, MayBeFailService, MayBeForward, MayBeGroups, MayBeHeartbeat, MayBeMoment, MayBeScaling, MayBeTimeout}
 use Rattle.sqs_formats.specs.Lists.{integers}
 use Rattle.sim_script.specs.Ranges.{IsCallAt, IsScriptOf}
 use Rattle.sim_scenario.specs.AtHome.{IsSendingAt, MayDelay}
@@ -36,7 +37,7 @@ use Rattle.sim_scenario.specs.Ranges.{IsRoleInRange}
 use Rattle.sim_scenario.proofs.KinRead.{name_says, queue_says_number, same_kind_says}
 use Rattle.sim_scenario.proofs.Links.{below}
 use Rattle.sqs_formats.proofs.Readings.{parts, picked, same_ok}
-use Rattle.sim_scenario.proofs.Admits.{Admits, integer_admits, maybe_admits, maybe_within, optional_admits, optional_within, required_admits, required_read, required_within, seconds_admits}
+use Rattle.sim_scenario.proofs.Admits.{Admits, integer_admits, maybe_admits, maybe_within, optional_admits, optional_within, required_admits, required_read, required_within, seconds_admits, seconds_within}
 use Rattle.sim_scenario.proofs.QueueRanges.{latency_in_range}
 use Rattle.sim_scenario.proofs.GroupsRead.{groups_in_range}
 use Rattle.sim_scenario.proofs.OutagesRead.{outages_in_range}
@@ -82,6 +83,7 @@ abbrev pub RoleSays : Outline → ℕ → Role → Type 0
 RoleSays o home (Script calls) = All (λ c. IsCallAt (kind_at o home) (map (λ t. t.number) (home_of o home).tasks) c.call) calls
 RoleSays o home (Producer p) = IsSendingAt (kind_at o home) p
 RoleSays o home (Consumer c) = ForwardKin o home c.forward
+RoleSays o home (Scaler s) = Unit {0}
 
 -- and is in range
 abbrev RoleReads : Outline → ℕ → Role → Type 0
@@ -191,8 +193,51 @@ gap_reads : (t : Table) (d : Distribution) → gap t ≡ Ok d → IsDistribution
 unfolding gap
 gap_reads t d e = time_in_range (has t (codes "gap")) (codes "gap") (codes "gap_min_ms") (codes "gap_max_ms") t d e
 
-consumer_reads : (o : Outline) (home : ℕ) (t : Table) (r : Role) → consuming o home t ≡ Ok r → RoleReads o home r
-consumer_reads o home t r e =
+scaling_reads : (b : Bool) (o : Outline) (home index : ℕ) (t : Table) (s : Option Scaling) → scaling b o home index t ≡ Ok s → MayBeScaling s
+unfolding scaling
+scaling_reads false o home index t s e = rw (← same_ok _ _ e) tt
+scaling_reads true o home index t s e =
+    let scaler = parts _ _ _ e in
+    let start = parts _ _ _ scaler.2 in
+    rw (← same_ok _ _ start.2) (optional_within 0 86400000 0 t (codes "scaler_start_ms") start.0 (lit≤ tt, lit≤ tt) start.1).1
+
+none_old : (every : ℕ) → Between 0 (every - 1) 0
+none_old every = (omega arith, omega arith)
+
+scaler_reads : (o : Outline) (home : ℕ) (t : Table) (r : Role) → scaler t ≡ Ok r → RoleReads o home r
+scaler_reads o home t r e =
+    let known = parts _ _ _ e in
+    let start = parts _ _ _ known.2 in
+    let every = parts _ _ _ start.2 in
+    let reading = parts _ _ _ every.2 in
+    let target = parts _ _ _ reading.2 in
+    let least = parts _ _ _ target.2 in
+    let most = parts _ _ _ least.2 in
+    let added = parts _ _ _ most.2 in
+    let taken = parts _ _ _ added.2 in
+    let out = parts _ _ _ taken.2 in
+    let back = parts _ _ _ out.2 in
+    let often : Between 1 86400 every.0 = required_within 1 86400 t (codes "every_s") every.0 every.1 in
+    let old : Between 0 (every.0 - 1) reading.0 = optional_within 0 (every.0 - 1) 0 t (codes "reading_s") reading.0 (none_old every.0) reading.1 in
+    let bounds : Between least.0 1000 most.0 = required_within least.0 1000 t (codes "copies_max") most.0 most.1 in
+    rw (← same_ok _ _ back.2) (
+      tt,
+      record {
+        start = (optional_within 0 2592000000 0 t (codes "start_ms") start.0 (lit≤ tt, lit≤ tt) start.1).1;
+        every = (omega (arith, often.0), omega (arith, often.1));
+        reading = omega (arith, often.0, old.1);
+        target = required_within 1 1000000 t (codes "visible_per_copy") target.0 target.1;
+        ordered = bounds.0;
+        most = bounds.1;
+        most_added = optional_within 1 1000 1000 t (codes "added_max") added.0 (lit≤ tt, lit≤ tt) added.1;
+        most_taken = optional_within 1 1000 1000 t (codes "taken_max") taken.0 (lit≤ tt, lit≤ tt) taken.1;
+        cooldown_out = (seconds_within 0 86400 0 t (codes "cooldown_out_s") out.0 (lit≤ tt, lit≤ tt) out.1).1;
+        cooldown_in = (seconds_within 0 86400 0 t (codes "cooldown_in_s") back.0 (lit≤ tt, lit≤ tt) back.1).1;
+      },
+    )
+
+consumer_reads : (o : Outline) (home index : ℕ) (t : Table) (r : Role) → consuming o home index t ≡ Ok r → RoleReads o home r
+consumer_reads o home index t r e =
     let known = parts _ _ _ e in
     let start = parts _ _ _ known.2 in
     let batch = parts _ _ _ start.2 in
@@ -206,7 +251,8 @@ consumer_reads o home t r e =
     let idle = parts _ _ _ failures.2 in
     let forward = parts _ _ _ idle.2 in
     let stop = parts _ _ _ forward.2 in
-    let fails = parts _ _ _ stop.2 in
+    let scaled = parts _ _ _ stop.2 in
+    let fails = parts _ _ _ scaled.2 in
     let lasting = failing_reads t fails.0 fails.1 in
     let onward = forward_reads o home (has t (codes "forward")) t forward.0 forward.1 in
     rw (← same_ok _ _ fails.2) (
@@ -224,6 +270,7 @@ consumer_reads o home t r e =
         idle = optional_within 1 86400000 1000 t (codes "idle_ms") idle.0 (lit≤ tt, lit≤ tt) idle.1;
         forward = onward.1;
         stop = stop_reads start.0 t stop.0 stop.1;
+        scaling = scaling_reads (has t (codes "scaler")) o home index t scaled.0 scaled.1;
         outages = lasting.outages;
         backoff = lasting.backoff;
         heartbeat = lasting.heartbeat;
@@ -283,10 +330,11 @@ scripted_reads files o home t r e =
     let script = calls_by_in_range (has t (codes "script")) files (home_of o home) t calls.0 calls.1 in
     rw (← same_ok _ _ calls.2) (script.fits, script.script)
 
-role_reads : (kind : ActorKind) (files : Files) (o : Outline) (home : ℕ) (t : Table) (r : Role) → role kind files o home t ≡ Ok r → RoleReads o home r
-role_reads kinds.Script files o home t r e = scripted_reads files o home t r e
-role_reads kinds.Producer files o home t r e = producer_reads o home t r e
-role_reads kinds.Consumer files o home t r e = consumer_reads o home t r e
+role_reads : (kind : ActorKind) (files : Files) (o : Outline) (home index : ℕ) (t : Table) (r : Role) → role kind files o home index t ≡ Ok r → RoleReads o home r
+role_reads kinds.Script files o home index t r e = scripted_reads files o home t r e
+role_reads kinds.Producer files o home index t r e = producer_reads o home t r e
+role_reads kinds.Consumer files o home index t r e = consumer_reads o home index t r e
+role_reads kinds.Scaler files o home index t r e = scaler_reads o home t r e
 
 -- the names of copies are well-formed and fresh, and have room
 record CopiesSay (o : Outline) (index : ℕ) (name : List ℕ) (names : List (List ℕ)) : Type 0 where
@@ -349,7 +397,7 @@ actor_says files o index t agents e =
     let names = parts _ _ _ role.2 in
     let settings : ActorSettings = record { home = home.0; role = role.0 } in
     let named = required_read (queue_named o) t (codes "queue") home.0 home.1 in
-    let reads = role_reads kind.0 files o home.0 t role.0 role.1 in
+    let reads = role_reads kind.0 files o home.0 index t role.0 role.1 in
     let own = name_says is_agent_name o (actor_place o index) t name.0 name.1 in
     let copied = copies_say o index name.0 t names.0 names.1 in
     let says : AgentSays o t settings = record {

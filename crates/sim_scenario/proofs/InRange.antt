@@ -10,7 +10,7 @@ use Rattle.sqs_model.specs.declared.agents.Distribution.{Distribution}
 use Rattle.sqs_model.specs.declared.agents.Distribution.TheVariants.{Quantiles, Uniform}
 use Rattle.sqs_model.specs.declared.agents.Forwarding.{Forwarding}
 use Rattle.sqs_model.specs.declared.agents.Role.{Role}
-use Rattle.sqs_model.specs.declared.agents.Role.TheVariants.{Consumer, Producer, Script}
+use Rattle.sqs_model.specs.declared.agents.Role.TheVariants.{Consumer, Producer, Scaler, Script}
 use Rattle.sqs_model.specs.Progress.{IsSoundDistribution, IsSoundForward, IsSoundPolicy, IsSoundRole, IsSoundSettings, TakesTime}
 use Rattle.sqs_model.specs.Scenario.{LeadsWithin, MayBeWithin, Scenario}
 use Rattle.sqs_model.specs.Valid.{Between, IsDistribution, IsQueueSettings, IsTaskSettings, MayBeForward, MayBePolicy}
@@ -55,6 +55,7 @@ role_sound : (r : Role) → IsRoleInRange r → IsSoundRole r
 role_sound (Script calls) h = h.ascending
 role_sound (Producer p) h = distribution_sound p.gap h.gap
 role_sound (Consumer c) h = (distribution_sound c.service h.service, h.idle.0, forward_sound c.forward h.forward)
+role_sound (Scaler s) h = h.reading
 
 names_count : (queues : List (List ℕ × QueueSettings)) (actors : List (List ℕ × ActorSettings)) (tasks : List (List ℕ × TaskSettings))
     → length (map (λ x. x.0) queues ++ (map (λ x. x.0) actors ++ map (λ x. x.0) tasks)) ≡ length (map (λ x. x.1) queues) + length (map (λ x. x.1) actors) + length (map (λ x. x.1) tasks)
@@ -74,6 +75,7 @@ role_within : (o : Outline) (home : ℕ) (r : Role) → RoleSays o home r → Ro
 role_within o home (Script calls) h = tt
 role_within o home (Producer p) h = tt
 role_within o home (Consumer c) h = forwards_within o home c.forward h
+role_within o home (Scaler s) h = tt
 
 linked_by : (count : ℕ) (s : Scenario) → length s.queues ≡ count
     → All (λ q. LeadsWithin count q.policy) s.queues → All (λ a. (a.home < count) × RoleWithin count a.role) s.actors → All (λ t. (t.home < count) × MayBeWithin count t.to) s.tasks → IsLinked s

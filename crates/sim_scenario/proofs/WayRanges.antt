@@ -6,7 +6,7 @@ use Rattle.std.proofs.lemmas.List.Elements.{All-append, All-cons, All-head, All-
 use Rattle.sqs_model.specs.declared.agents.ActorSettings.{ActorSettings}
 use Rattle.sqs_model.specs.declared.agents.Forwarding.{Forwarding}
 use Rattle.sqs_model.specs.declared.agents.Role.{Role}
-use Rattle.sqs_model.specs.declared.agents.Role.TheVariants.{Consumer, Producer, Script}
+use Rattle.sqs_model.specs.declared.agents.Role.TheVariants.{Consumer, Producer, Scaler, Script}
 use Rattle.sqs_model.specs.Scenario.{Scenario, edge, edges, forward_edges, policy_edges, role_edges, task_edges, task_goals}
 use Rattle.sqs_model.specs.Valid.{Between, IsLatency, IsQueueSettings, IsTaskSettings, MayBeForward, MayBePolicy}
 use Rattle.sqs_model.proofs.Opening.{all_enumerated}
@@ -46,6 +46,7 @@ role_range : (n : ℕ) (r : Role) → IsRoleInRange r → All IsEdge (role_edges
 role_range n (Script calls) h = All-nil IsEdge
 role_range n (Producer p) h = All-nil IsEdge
 role_range n (Consumer c) h = forward_range n c.forward h.forward
+role_range n (Scaler s) h = All-nil IsEdge
 
 pub ways_in_range : (s : Scenario) → IsInRange s → All (λ e. (1 ≤ e.least) × (e.least ≤ 900000)) (edges s)
 ways_in_range s h =

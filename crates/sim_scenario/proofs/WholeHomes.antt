@@ -10,7 +10,7 @@ use Rattle.sqs_redrive.specs.declared.settings.QueueSettings.{QueueSettings}
 use Rattle.sqs_redrive.specs.declared.settings.TaskSettings.{TaskSettings}
 use Rattle.sqs_model.specs.declared.agents.ActorSettings.{ActorSettings}
 use Rattle.sqs_model.specs.declared.agents.Role.{Role}
-use Rattle.sqs_model.specs.declared.agents.Role.TheVariants.{Consumer, Producer, Script}
+use Rattle.sqs_model.specs.declared.agents.Role.TheVariants.{Consumer, Producer, Scaler, Script}
 use Rattle.sqs_model.specs.Scenario.{Scenario}
 use Rattle.sqs_formats.specs.Keys.{at, each, text_in, text_when}
 use Rattle.sqs_formats.specs.Outline.{Outline, first_task, kind_at, queue_number, queue_text}
@@ -45,6 +45,7 @@ role_fits o s home (Script calls) kind numbers h =
     (subst (λ (b : Bool). All (λ (c : ScriptCall). IsCallAt b (map (λ t. t.number) (home_of o home).tasks) c.call) calls) (sym kind) h)
 role_fits o s home (Producer p) kind numbers h = subst (λ (b : Bool). IsSendingAt b p) (sym kind) h
 role_fits o s home (Consumer c) kind numbers h = tt
+role_fits o s home (Scaler z) kind numbers h = tt
 
 pub whole_fits : (files : Files) (top : Top) (o : Outline) (queues : List (List ℕ × QueueSettings)) (judged : List (Option ℕ)) (actors : List (List (List ℕ × ActorSettings))) (tasks : List (List ℕ × TaskSettings))
     → AreRead files top o queues judged actors tasks → All (λ a. FitsHome (whole top queues (by_number actors) tasks) a.home a.role) (whole top queues (by_number actors) tasks).actors

@@ -8,7 +8,7 @@ use Rattle.sqs_redrive.specs.declared.settings.TaskSettings.{TaskSettings}
 use Rattle.sqs_model.specs.declared.agents.ActorSettings.{ActorSettings}
 use Rattle.sqs_model.specs.declared.agents.Forwarding.{Forwarding}
 use Rattle.sqs_model.specs.declared.agents.Role.{Role}
-use Rattle.sqs_model.specs.declared.agents.Role.TheVariants.{Consumer, Producer, Script}
+use Rattle.sqs_model.specs.declared.agents.Role.TheVariants.{Consumer, Producer, Scaler, Script}
 use Rattle.sqs_model.specs.Scenario.{Scenario}
 use Rattle.sqs_formats.specs.Keys.{each}
 use Rattle.sqs_formats.specs.Names.{is_fifo}
@@ -53,6 +53,7 @@ role_names_kin : (o : Outline) (s : Scenario) → AreOfKinds o s → (home : ℕ
 role_names_kin o s h home (Script calls) k = tt
 role_names_kin o s h home (Producer p) k = tt
 role_names_kin o s h home (Consumer c) k = forward_to_kin o s h home c.forward k
+role_names_kin o s h home (Scaler z) k = tt
 
 pub whole_kinds : (files : Files) (top : Top) (o : Outline) (queues : List (List ℕ × QueueSettings)) (judged : List (Option ℕ)) (actors : List (List (List ℕ × ActorSettings))) (tasks : List (List ℕ × TaskSettings))
     → AreRead files top o queues judged actors tasks → AreOfKinds o (whole top queues (by_number actors) tasks)

@@ -4,7 +4,7 @@ use Rattle.sqs_model.specs.declared.agents.ActorSettings.{ActorSettings}
 use Rattle.sqs_model.specs.declared.agents.Groups.{Groups}
 use Rattle.sqs_model.specs.declared.agents.ProducerSettings.{ProducerSettings}
 use Rattle.sqs_model.specs.declared.agents.Role.{Role}
-use Rattle.sqs_model.specs.declared.agents.Role.TheVariants.{Consumer, Producer, Script}
+use Rattle.sqs_model.specs.declared.agents.Role.TheVariants.{Consumer, Producer, Scaler, Script}
 use Rattle.sqs_redrive.specs.declared.settings.QueueSettings.{QueueSettings}
 use Rattle.sqs_redrive.specs.declared.settings.TaskSettings.{TaskSettings}
 use Rattle.sqs_model.specs.Longest.{longest_delay}
@@ -36,6 +36,7 @@ abbrev pub FitsHome : Scenario → ℕ → Role → Type 0
 FitsHome s home (Script calls) = All (λ c. IsCallAt (is_fifo_queue s home) (tasks_of s home) c.call) calls
 FitsHome s home (Producer p) = IsSendingAt (is_fifo_queue s home) p
 FitsHome s home (Consumer c) = Unit {0}
+FitsHome s home (Scaler z) = Unit {0}
 
 -- a scenario by its parts
 abbrev pub scenario_with : ℕ → ℕ → ℕ → List QueueSettings → List ActorSettings → List TaskSettings → List (List ℕ) → Scenario

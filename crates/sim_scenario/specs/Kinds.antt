@@ -3,7 +3,7 @@ use Rattle.std.specs.List.{enumerate_from}
 use Rattle.std.specs.Prelude.{All, Bool, Contains, None, Option, Some, false, get_or, map, true, ℕ, ◌≡◌, ◌≢◌}
 use Rattle.sqs_model.specs.declared.agents.Forwarding.{Forwarding}
 use Rattle.sqs_model.specs.declared.agents.Role.{Role}
-use Rattle.sqs_model.specs.declared.agents.Role.TheVariants.{Consumer, Producer, Script}
+use Rattle.sqs_model.specs.declared.agents.Role.TheVariants.{Consumer, Producer, Scaler, Script}
 use Rattle.sqs_model.specs.Scenario.{Scenario}
 use Rattle.sqs_redrive.specs.declared.settings.Kind.{Kind}
 use Rattle.sqs_redrive.specs.declared.settings.Kind.TheVariants.{Fifo, Standard}
@@ -42,6 +42,7 @@ abbrev pub RoleNamesKin : Scenario → ℕ → Role → Type 0
 RoleNamesKin s home (Script calls) = Unit {0}
 RoleNamesKin s home (Producer p) = Unit {0}
 RoleNamesKin s home (Consumer c) = ForwardsToKin s home c.forward
+RoleNamesKin s home (Scaler z) = Unit {0}
 
 -- messages stay among queues of one kind: the dead-letter queue of a queue and the queue to which a task moves are other
 -- queues of the same kind, and each queue to which a consumer forwards is one of that kind

@@ -2,20 +2,21 @@
 use Rattle.std.specs.Prelude.{All, None, Option, Some, ℕ, ◌+◌, ◌<◌, ◌≡◌, ◌≤◌, length}
 use Rattle.sqs_model.specs.declared.agents.Forwarding.{Forwarding}
 use Rattle.sqs_model.specs.declared.agents.Role.{Role}
-use Rattle.sqs_model.specs.declared.agents.Role.TheVariants.{Consumer, Producer, Script}
+use Rattle.sqs_model.specs.declared.agents.Role.TheVariants.{Consumer, Producer, Scaler, Script}
 use Rattle.sqs_model.specs.Progress.{IsSoundScenario}
 use Rattle.sqs_model.specs.Scenario.{LeadsWithin, MayBeWithin, Scenario}
 use Rattle.sim_script.specs.Ranges.{IsScript}
 use Rattle.sim_scenario.specs.AtHome.{FitsHome}
 use Rattle.sim_scenario.specs.Kinds.{NamesKin, TasksDrain}
 use Rattle.sim_scenario.specs.Naming.{AreNamed}
-use Rattle.sqs_model.specs.Valid.{Between, IsConsumer, IsProducer, IsQueueSettings, IsTaskSettings}
+use Rattle.sqs_model.specs.Valid.{Between, IsConsumer, IsProducer, IsQueueSettings, IsScaler, IsTaskSettings}
 
 -- a role in range
 abbrev pub IsRoleInRange : Role → Type 0
 IsRoleInRange (Script calls) = IsScript calls
 IsRoleInRange (Producer p) = IsProducer p
 IsRoleInRange (Consumer c) = IsConsumer c
+IsRoleInRange (Scaler s) = IsScaler s
 
 -- the queues to which a consumer forwards, if it does, are among the queues
 abbrev pub ForwardsWithin : ℕ → Option Forwarding → Type 0
@@ -27,6 +28,7 @@ abbrev pub RoleWithin : ℕ → Role → Type 0
 RoleWithin queues (Script calls) = Unit {0}
 RoleWithin queues (Producer p) = Unit {0}
 RoleWithin queues (Consumer c) = ForwardsWithin queues c.forward
+RoleWithin queues (Scaler s) = Unit {0}
 
 -- whatever names a queue names one of the scenario
 pub record IsLinked (s : Scenario) : Type 0 where

@@ -1,7 +1,7 @@
 //! The actors of a scenario's text.
-ghost use Rattle.std.specs.Prelude.{◌≡◌, ◌<◌};
+ghost use Rattle.std.specs.Prelude.{◌≡◌, ◌<◌, map};
 ghost use Rattle.std.specs.List.{list_all};
-ghost use Rattle.sqs_formats.specs.Actors.{copies as the_copies, role as the_role};
+ghost use Rattle.sqs_formats.specs.Actors.{copies as the_copies, kinds_of, role as the_role};
 ghost use Rattle.sqs_formats.specs.Names.{is_agent_name};
 ghost use Rattle.sqs_formats.specs.Outline.{is_fresh};
 ghost use Rattle.sim_scenario.specs.Gives.{Gives};
@@ -16,6 +16,7 @@ use crate::named::{AgentName, NamedQueue};
 use crate::names::is_agent_name;
 use crate::outline::Outline;
 use crate::producers::producer;
+use crate::scalers::scaler;
 use crate::scripted::{Scripts, scripted};
 use crate::section::Section;
 use sim_clock::Refusal;
@@ -30,21 +31,38 @@ const KINDS: &[(&str, ActorKind)] = &[
     ("consumer", ActorKind::Consumer),
 ];
 
+/// Those from version 3 on.
+const NEWER_KINDS: &[(&str, ActorKind)] = &[
+    ("script", ActorKind::Script),
+    ("producer", ActorKind::Producer),
+    ("consumer", ActorKind::Consumer),
+    ("scaler", ActorKind::Scaler),
+];
+
+/// The kinds of actors of a version, by their names.
+fn kinds_of(version: u64) -> &'static [(&'static str, ActorKind)]
+    ensures { map (λ k. (k.0.now, k.1)) result.now ≡ kinds_of version }
+{
+    if version < 3 { KINDS } else { NEWER_KINDS }
+}
+
 /// What an actor of a kind does.
 fn role(
     kind: ActorKind,
     scripts: &Scripts,
     outline: &Outline,
     home: u32,
+    index: usize,
     section: &Section<'_>,
 ) -> Result<Role, ReadError>
     ensures { Gives (λ r. r) result
-        (the_role kind scripts.now outline.now home (table_of section.now)) }
+        (the_role kind scripts.now outline.now home index (table_of section.now)) }
 {
     match kind {
         ActorKind::Script => scripted(scripts, outline, home, section),
         ActorKind::Producer => producer(outline.version(), outline.is_fifo_at(home), section),
-        ActorKind::Consumer => consumer(outline, home, section),
+        ActorKind::Consumer => consumer(outline, home, index, section),
+        ActorKind::Scaler => scaler(section),
     }
 }
 
@@ -109,16 +127,17 @@ impl Actors<'_> {
         &self,
         kind: ActorKind,
         home: u32,
+        index: usize,
         names: Vec<Text>,
         section: &Section<'_>,
     ) -> Result<Agents, ReadError>
-        ensures { (r : Role) → the_role kind self.now.scripts.now self.now.outline.now home
+        ensures { (r : Role) → the_role kind self.now.scripts.now self.now.outline.now home index
             (table_of section.now) ≡ Ok r → Gives (λ v. v) result (Ok
             (each_at home r names.items)) }
     {
         let mut agents = Vec::with_capacity(section.alloc, names.len())?;
         for name in names {
-            let role = role(kind, self.scripts, self.outline, home, section)?;
+            let role = role(kind, self.scripts, self.outline, home, index, section)?;
             agents.push((name, ActorSettings { home, role }))?;
         }
         Ok(Listed::new(agents))
@@ -144,15 +163,16 @@ impl ItemType for Actors<'_> {
                 is_queue: false,
             },
         )?;
-        let kind = section.required("kind", &OneOf(KINDS))?;
+        let kinds = kinds_of(outline.version());
+        let kind = section.required("kind", &OneOf(kinds))?;
         let home = section.required("queue", &NamedQueue { outline })?;
-        let role = role(kind, self.scripts, outline, home, section)?;
+        let role = role(kind, self.scripts, outline, home, number, section)?;
         let actor = (name, ActorSettings { home, role });
         let agents = vec![in section.alloc; actor]?;
         let copies = copies(outline, number, agents[0].0.as_bytes(), section)?;
         if copies.is_empty() {
             return Ok(Listed::new(agents));
         }
-        self.copied(kind, home, copies, section)
+        self.copied(kind, home, number, copies, section)
     }
 }

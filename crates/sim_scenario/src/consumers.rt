@@ -1,6 +1,6 @@
 //! A consumer of a scenario's text.
 ghost use Rattle.std.specs.Prelude.{◌≡◌, map};
-ghost use Rattle.sqs_formats.specs.Actors.{all_consumer_keys, consuming, fail_service_keys, failing, forward as the_forward, forward_keys, jitter_keys, newer_consumer_keys, service_keys, serving as the_serving, serving_keys};
+ghost use Rattle.sqs_formats.specs.Actors.{all_consumer_keys, consuming, fail_service_keys, failing, forward as the_forward, forward_keys, jitter_keys, newer_consumer_keys, scaling as the_scaling, scaling_keys, service_keys, serving as the_serving, serving_keys};
 ghost use Rattle.sqs_formats.specs.Keys.{only};
 ghost use Rattle.sim_scenario.specs.Gives.{Gives};
 ghost use Rattle.sim_scenario.specs.Sections.{table_of};
@@ -9,14 +9,14 @@ use crate::distributions::time;
 use crate::fault::ReadError;
 use crate::key_type::{Integer, OneOf, Seconds, SizedText};
 use crate::lists::{Integers, no_integers};
-use crate::named::KinQueues;
+use crate::named::{KinQueues, NamedScaler};
 use crate::outages::{outage_keys, outages};
 use crate::outline::Outline;
 use crate::producers::stopping;
 use crate::queues::{latency, latency_keys};
 use crate::section::{ACTOR_KEYS, Section};
 use sqs_formats::Failing;
-use sqs_model::{ConsumerSettings, Forwarding, Role, Serving};
+use sqs_model::{ConsumerSettings, Forwarding, Role, Scaling, Serving};
 
 /// The keys of every consumer.
 const CONSUMER_KEYS: &[&str] = &[
@@ -60,6 +60,7 @@ fn newer_consumer_keys(version: u64) -> &'static [&'static str]
             "batch_fails",
             "backoff_s",
             "copies",
+            "scaler",
         ]
     } else {
         &[]
@@ -102,6 +103,41 @@ fn jitter_keys(has_backoff: bool) -> &'static [&'static str]
     }
 }
 
+/// The key that a consumer with a scaler has, too.
+fn scaling_keys(has_scaler: bool) -> &'static [&'static str]
+    ensures { map (λ k. k.now) result.now ≡ scaling_keys has_scaler }
+{
+    if has_scaler {
+        &["scaler_start_ms"]
+    } else {
+        &[]
+    }
+}
+
+/// By whom a consumer is scaled, if it is.
+#[tactic(auto, unfolding(sqs_formats::specs::Actors::scaling, sqs_formats::specs::Reading::and_then))]
+fn scaling(
+    has_scaler: bool,
+    outline: &Outline,
+    home: u32,
+    index: usize,
+    section: &Section<'_>,
+) -> Result<Option<Scaling>, ReadError>
+    ensures { Gives (λ s. s) result
+        (the_scaling has_scaler outline.now home index (table_of section.now)) }
+{
+    if !has_scaler {
+        return Ok(None);
+    }
+    let scaler = section.required("scaler", &NamedScaler { outline, home })?;
+    let start = section.optional("scaler_start_ms", &Integer(0, 86_400_000), 0)?;
+    Ok(Some(Scaling {
+        scaler,
+        second: outline.second_copy(index),
+        start,
+    }))
+}
+
 /// Checks that a consumer has known keys alone.
 fn known_consumer_keys(version: u64, section: &Section<'_>) -> Result<(), ReadError>
     ensures { Gives (λ u. u) result
@@ -116,6 +152,7 @@ fn known_consumer_keys(version: u64, section: &Section<'_>) -> Result<(), ReadEr
     let has_list = section.has_newer(version, "fails_between_ms");
     let outages = outage_keys(has_list, section.has_newer(version, "fails_from_ms"));
     let jitter = jitter_keys(section.has_newer(version, "backoff_s"));
+    let scaling = scaling_keys(section.has_newer(version, "scaler"));
     section.only(&[
         ACTOR_KEYS,
         CONSUMER_KEYS,
@@ -126,6 +163,7 @@ fn known_consumer_keys(version: u64, section: &Section<'_>) -> Result<(), ReadEr
         fail_service,
         outages,
         jitter,
+        scaling,
     ])
 }
 
@@ -213,9 +251,10 @@ fn failing(section: &Section<'_>) -> Result<Failing, ReadError>
 pub(crate) fn consumer(
     outline: &Outline,
     home: u32,
+    index: usize,
     section: &Section<'_>,
 ) -> Result<Role, ReadError>
-    ensures { Gives (λ c. c) result (consuming outline.now home (table_of section.now)) }
+    ensures { Gives (λ c. c) result (consuming outline.now home index (table_of section.now)) }
 {
     known_consumer_keys(outline.version(), section)?;
     let start = section.optional("start_ms", &Integer(0, 2_592_000_000), 0)?;
@@ -230,6 +269,7 @@ pub(crate) fn consumer(
     let idle = section.optional("idle_ms", &Integer(1, 86_400_000), 1000)?;
     let forward = forward(section.has("forward"), outline, home, section)?;
     let stop = stopping(start, section)?;
+    let scaling = scaling(section.has("scaler"), outline, home, index, section)?;
     let fails = failing(section)?;
     Ok(Role::Consumer(ConsumerSettings {
         start,
@@ -244,6 +284,7 @@ pub(crate) fn consumer(
         idle,
         forward,
         stop,
+        scaling,
         fails_on: fails.fails_on,
         outages: fails.outages,
         whole: fails.whole,

@@ -77,6 +77,23 @@ impl KeyType for Integer {
     }
 }
 
+/// A small integer from the first number to the second.
+#[derive(Drop)]
+pub(crate) struct Count(pub(crate) u32, pub(crate) u32);
+
+impl KeyType for Count {
+    type Value = u32;
+
+    ghost use Rattle.sqs_formats.specs.Keys.{integer};
+
+    ghost says = { λ k. integer k.0 k.1 };
+
+    fn read(&self, section: &Section<'_>, value: &Value, key: &str) -> Result<u32, ReadError> {
+        let count = number(section, value, key, self.0 as u64, self.1 as u64)?;
+        Ok(count as u32)
+    }
+}
+
 /// A time in seconds from the first number to the second, which is read as milliseconds.
 #[derive(Drop)]
 pub(crate) struct Seconds(pub(crate) u32, pub(crate) u32);

@@ -21,6 +21,7 @@ mod producers;
 mod queues;
 mod reader;
 mod roster;
+mod scalers;
 mod scenario;
 mod script_files;
 mod scripted;

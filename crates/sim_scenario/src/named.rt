@@ -234,6 +234,30 @@ impl KeyType for SourceQueue<'_> {
     }
 }
 
+/// The name of a scaler of the agent's queue.
+#[derive(Drop)]
+pub(crate) struct NamedScaler<'o> {
+    pub(crate) outline: &'o Outline,
+    pub(crate) home: u32,
+}
+
+impl KeyType for NamedScaler<'_> {
+    type Value = u32;
+
+    ghost use Rattle.sqs_formats.specs.Outline.{scaler_named};
+
+    ghost says = { λ k. scaler_named k.outline.now k.home };
+
+    #[tactic(auto, unfolding(sqs_formats::specs::Outline::scaler_named, sqs_formats::specs::Reading::and_then))]
+    fn read(&self, section: &Section<'_>, value: &Value, key: &str) -> Result<u32, ReadError> {
+        let name = section.text(value, key)?;
+        match self.outline.scaler_number(self.home, name.as_bytes()) {
+            Some(number) => Ok(number),
+            None => Err(section.blame(Refusal::UnknownQueue, key)),
+        }
+    }
+}
+
 /// The name of a dead-letter queue, which is checked once all queues are read: 0 if there is no
 /// queue of this name.
 #[derive(Drop)]

@@ -4,13 +4,14 @@ ghost use Rattle.std.specs.List.{enumerate_from, sum, zip};
 ghost use Rattle.toml.specs.View.{view};
 ghost use Rattle.sqs_formats.specs.Keys.{text_in};
 ghost use Rattle.sqs_formats.specs.Actors.{tasks_at};
+ghost use Rattle.sqs_formats.specs.Outline.{is_scaler, scaler_text, scalers_from};
 ghost use Rattle.sim_scenario.specs.Naming.{all_names as the_all_names, names_before_tasks};
 
 use crate::copies::{copies_before, copies_within, push_names_taken, total_beside};
 use crate::names::is_fifo;
 use crate::roster::Roster;
 use crate::section::{member, text_when};
-use sqs_formats::{Home, HomeTask, HomeTasks};
+use sqs_formats::{Home, HomeTask, HomeTasks, ScalerText};
 use sqs_message::Text;
 use std::alloc::{AllocError, Global};
 use std::marker::Model;
@@ -35,6 +36,7 @@ pub(crate) struct Outline {
     first_task_place: usize,
     task_homes: Vec<Text>,
     dead_letters: Roster,
+    scalers: Vec<ScalerText>,
 }
 
 impl Model for Outline {
@@ -44,7 +46,7 @@ impl Model for Outline {
 
     ghost Value = { Outline };
 
-    ghost view = { λ o. record { version = o.version; names = o.names; queues = take o.queue_count o.names; copies = o.copies.items; tasks = drop o.first_task_place o.names; task_homes = o.task_homes.items; dead_letters = o.dead_letters } };
+    ghost view = { λ o. record { version = o.version; names = o.names; queues = take o.queue_count o.names; copies = o.copies.items; tasks = drop o.first_task_place o.names; task_homes = o.task_homes.items; dead_letters = o.dead_letters; scalers = o.scalers.items } };
 
     ghost invariant = { λ o. record { counted : AreCounted o.queue_count o.copies.items o.first_task_place (length o.names); before : o.earlier_copies.items ≡ copies_before o.copies.items } };
 }
@@ -133,11 +135,45 @@ fn tasks_at(
     Ok(tasks)
 }
 
+/// Whether an actor is given as a scaler.
+fn is_scaler(actor: &Value) -> bool
+    ensures { result ≡ is_scaler (view actor.now) }
+{
+    text_in(actor, "kind") == "scaler"
+}
+
+/// The scaler of a number by its text.
+fn scaler_text(alloc: Global, number: u32, actor: &Value) -> Result<ScalerText, AllocError>
+    ensures { IfOk result (λ s. s ≡ scaler_text number (view actor.now)) }
+{
+    let name = Text::new(text_in(actor, "name").as_bytes().to_vec(alloc)?);
+    let home = Text::new(text_in(actor, "queue").as_bytes().to_vec(alloc)?);
+    Ok(ScalerText { number, name, home })
+}
+
+/// The scalers among some actors, with their agent numbers, the first of which is `first`.
+fn scalers_from(
+    alloc: Global,
+    first: usize,
+    actors: &[Value],
+) -> Result<Vec<ScalerText>, AllocError>
+    requires { first + length actors.now ≤ 32000 }
+    ensures { IfOk result (λ v. v.items ≡ scalers_from first (map view actors.now)) }
+{
+    let mut scalers = Vec::new(alloc);
+    for (i, actor) in actors.iter().enumerate() {
+        if is_scaler(actor) {
+            scalers.push(scaler_text(alloc, (first + i) as u32, actor)?)?;
+        }
+    }
+    Ok(scalers)
+}
+
 impl Outline {
     ghost use Rattle.std.specs.Prelude.{◌≡◌, ◌+◌, ◌<◌, ◌≤◌, IfOk, get_or, map, length};
     ghost use Rattle.toml.specs.View.{view};
     ghost use Rattle.sqs_formats.specs.Keys.{is_among};
-    ghost use Rattle.sqs_formats.specs.Outline.{actor_place, first_task, is_fresh, kind_at, outline_of, queue_number, queue_text, task_place};
+    ghost use Rattle.sqs_formats.specs.Outline.{actor_place, first_task, is_fresh, kind_at, outline_of, queue_number, queue_text, scaler_number, second_copy, task_place};
     ghost use Rattle.sqs_formats.specs.Actors.{home_of};
     ghost use Rattle.sim_scenario.specs.Naming.{outline_in};
 
@@ -158,6 +194,7 @@ impl Outline {
         let (names, first_task_place) = all_names(alloc, queues, actors, copies.as_slice(), tasks)?;
         let task_homes = texts(alloc, tasks, "queue")?;
         let dead_letters = texts(alloc, queues, "dead_letter")?;
+        let scalers = scalers_from(alloc, queues.len(), actors)?;
         let names = Roster::new(alloc, names)?;
         let dead_letters = Roster::new(alloc, dead_letters)?;
         Ok(Outline {
@@ -169,6 +206,7 @@ impl Outline {
             first_task_place,
             task_homes,
             dead_letters,
+            scalers,
         })
     }
 
@@ -278,5 +316,24 @@ impl Outline {
             is_fifo,
             tasks: HomeTasks::new(tasks),
         })
+    }
+
+    /// The number of the scaler of a name at a queue.
+    pub(crate) fn scaler_number(&self, home: u32, name: &[u8]) -> Option<u32>
+        ensures { result ≡ scaler_number self.now home name.now }
+    {
+        let home = self.queue_text(home);
+        self.scalers
+            .iter()
+            .find(|scaler| scaler.name.as_bytes() == name && scaler.home.as_bytes() == home)
+            .map(|scaler| scaler.number)
+    }
+
+    /// The number that the second copy of an actor has, or would have.
+    pub(crate) fn second_copy(&self, index: usize) -> u32
+        ensures { result ≡ second_copy self.now index }
+    {
+        let earlier = index.min(self.copies.len());
+        (self.queue_count + self.copies.len() + total_beside(&self.copies[..earlier])) as u32
     }
 }

@@ -64,6 +64,7 @@ consumer home start to =
             idle = 86400000;
             forward = Some (record { to = to ∷ []; latency = record { least = 10; greatest = 10 } });
             stop = None;
+            scaling = None;
             fails_on = None;
             outages = [];
             whole = false;
@@ -202,6 +203,7 @@ relay home start wait to =
             idle = 86400000;
             forward = Some (record { to = to ∷ []; latency = record { least = 10; greatest = 10 } });
             stop = None;
+            scaling = None;
             fails_on = None;
             outages = [];
             whole = false;

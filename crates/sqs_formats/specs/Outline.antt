@@ -24,13 +24,18 @@ pub record Outline : Type 0 where
   pub dead_letters : List (List ℕ)
   pub scalers : List ScalerText
 
+-- whether an actor is given as a scaler
+abbrev pub is_scaler : Data → Bool
+is_scaler d = bytes_eq (text_in (codes "kind") d) (codes "scaler")
+
+-- the scaler of a number by its text
+abbrev pub scaler_text : ℕ → Data → ScalerText
+scaler_text n d = record { number = n; name = text_in (codes "name") d; home = text_in (codes "queue") d }
+
 -- the scalers among some actors, the first of which has this number
 abbrev pub scalers_from : ℕ → List Data → List ScalerText
 scalers_from n [] = []
-scalers_from n (d ∷ ds) =
-    if bytes_eq (text_in (codes "kind") d) (codes "scaler")
-    then record { number = n; name = text_in (codes "name") d; home = text_in (codes "queue") d } ∷ scalers_from (n + 1) ds
-    else scalers_from (n + 1) ds
+scalers_from n (d ∷ ds) = if is_scaler d then scaler_text n d ∷ scalers_from (n + 1) ds else scalers_from (n + 1) ds
 
 -- the outline of three lists of items, where actors have so many copies
 abbrev pub outline_with : ℕ → List Data → List Data → List Data → List ℕ → Outline

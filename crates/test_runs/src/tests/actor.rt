@@ -1,6 +1,6 @@
 //! Lives of actors, step by step: the answers that they get and what they do.
-ghost use Rattle.std.specs.Prelude.{◌≤◌, length};
-ghost use Rattle.sqs_model.specs.Valid.{AreGroups, IsConsumer, IsLatency, MayBeFailService, MayBeGroups};
+ghost use Rattle.std.specs.Prelude.{◌<◌, ◌≤◌, length};
+ghost use Rattle.sqs_model.specs.Valid.{AreGroups, IsConsumer, IsForwarding, IsLatency, IsScaler, MayBeFailService, MayBeGroups};
 ghost use Rattle.sim_actor.specs.Lives.{IsRole};
 
 use crate::tests::same::same;
@@ -11,7 +11,7 @@ use sqs_message::{
 };
 use sqs_model::{
     Act, ActorSettings, ConsumerSettings, Distribution, Forwarding, Groups, Outage, Outbounds,
-    ProducerSettings, Role, Serving, Stretch, WeightedGroup,
+    ProducerSettings, Role, ScalerSettings, Scaling, Serving, Standing, Stretch, WeightedGroup,
 };
 use sqs_redrive::{Batch, Got, Latency, Load, Outbound};
 use std::alloc::{AllocError, Global};
@@ -139,6 +139,7 @@ fn show(out: &mut String, act: &mut Act) -> Shown {
             forwards,
             ..
         } => show_service(out, *receipt, *failed, forwards),
+        Act::Scale { from, to } => write!(out, "scale {from} {to}"),
         Act::Nothing => out.push_str("nothing"),
     }
 }
@@ -163,6 +164,8 @@ fn got(rt: &impl Abort, alloc: Global, number: u64, body: &str) -> Got {
 #[derive(Clone, Copy)]
 enum Told {
     Wake,
+    // A wake at which this number is told, and when the scaler wakes next.
+    By(u64, Option<u64>),
     Two,
     Empty,
     Waiting,
@@ -172,7 +175,7 @@ enum Told {
 // The reply that this means, if it is one; two messages are 4 and 6 with the bodies x and y.
 fn reply(rt: &impl Abort, alloc: Global, told: Told) -> Option<Reply> {
     match told {
-        Told::Wake => None,
+        Told::Wake | Told::By(..) => None,
         Told::Two => {
             let (first, second) = (got(rt, alloc, 4, "x"), got(rt, alloc, 6, "y"));
             let messages = vec![in alloc; first, second].expect(rt, "memory");
@@ -181,6 +184,14 @@ fn reply(rt: &impl Abort, alloc: Global, told: Told) -> Option<Reply> {
         Told::Empty => Some(Reply::Got(Batch::new(Vec::new(alloc)))),
         Told::Waiting => Some(Reply::Waiting),
         Told::Other => Some(Reply::Other),
+    }
+}
+
+// What an actor goes by when it wakes.
+fn standing(told: Told) -> Standing {
+    match told {
+        Told::By(number, next) => Standing { number, next },
+        _ => Standing::none(),
     }
 }
 
@@ -206,7 +217,7 @@ type Step = (u32, Told, &'static str, Option<u64>);
 fn live(rt: &impl Abort, alloc: Global, actor: &mut Actor, steps: &[Step]) {
     for &(now, told, wanted, wake) in steps {
         let mut act = match reply(rt, alloc, told) {
-            None => actor.woken(u64::from(now)).expect(rt, "an act"),
+            None => actor.woken(u64::from(now), standing(told)).expect(rt, "an act"),
             Some(reply) => act_of(actor.answered(u64::from(now), reply).expect(rt, "an act")),
         };
         let mut line = String::new(alloc);
@@ -304,6 +315,7 @@ fn consumer(alloc: Global, fail_permille: u64, forwarding: Forwarding) -> ActorS
             idle: 1000,
             forward: Some(forwarding),
             stop: None,
+            scaling: None,
             fails_on: None,
             outages: Listed::new(Vec::new(alloc)),
             whole: false,
@@ -535,6 +547,7 @@ fn failing_consumer(rt: &impl Abort, alloc: Global) -> ActorSettings
             idle: 1000,
             forward: None,
             stop: Some(1509),
+            scaling: None,
             fails_on: Some(text(rt, alloc, "x")),
             outages: Listed::new(Vec::new(alloc)),
             whole: true,
@@ -580,6 +593,7 @@ fn plain_consumer(alloc: Global) -> ConsumerSettings
         idle: 1000,
         forward: None,
         stop: None,
+        scaling: None,
         fails_on: None,
         outages: Listed::new(Vec::new(alloc)),
         whole: false,
@@ -604,6 +618,106 @@ fn consume_by(
         role: Role::Consumer(consumer),
     };
     consume(rt, alloc, settings, steps, wakes);
+}
+
+#[test]
+fn copy_asks_while_its_scaler_says_so(rt: HostRuntime) {
+    // The second copy has number 0, and so has this one.
+    let mut consumer = plain_consumer(rt.alloc());
+    consumer.scaling = Some(Scaling {
+        scaler: 9,
+        second: 0,
+        start: 50,
+    });
+    let life: &[Step] = &[
+        // two copies are wanted, and it is the second
+        (7, Told::By(2, Some(60)), "receive 2 5 Some(30)", None),
+        (8, Told::Empty, "nothing", Some(1008)),
+        // one is: it sleeps until the scaler wakes, and never for no time
+        (1008, Told::By(1, Some(2000)), "nothing", Some(2000)),
+        (2000, Told::By(1, Some(2000)), "nothing", Some(2001)),
+        (2001, Told::By(1, None), "nothing", None),
+        // two are again: it starts, and then asks
+        (3000, Told::By(2, Some(4000)), "nothing", Some(3050)),
+        (3050, Told::By(2, Some(4000)), "receive 2 5 Some(30)", None),
+        // what it holds it serves, whatever the scaler says
+        (3050, Told::Two, "nothing", Some(3118)),
+        (3118, Told::By(0, None), "serve r-2-4-1 false", None),
+    ];
+    consume_by(&rt, rt.alloc(), consumer, life, 7);
+}
+
+// A scaler that reads every 10 s, and wants a copy for each 10 visible messages, from 1 to 5; it
+// adds 2 at most at once, and takes one.
+fn scaler(reading: u64, cooldown_out: u64, cooldown_in: u64) -> ScalerSettings
+    requires reading { reading < 10000 }
+    requires out { cooldown_out ≤ 30000 }
+    requires in { cooldown_in ≤ 30000 }
+    ensures { IsScaler result }
+{
+    ScalerSettings {
+        start: 5000,
+        every: 10_000,
+        reading,
+        target: 10,
+        least: 1,
+        most: 5,
+        most_added: 2,
+        most_taken: 1,
+        cooldown_out,
+        cooldown_in,
+    }
+}
+
+// Takes a scaler of queue 2 through a life.
+fn scale(rt: &impl Abort, alloc: Global, scaler: ScalerSettings, steps: &[Step])
+    requires { IsScaler scaler }
+{
+    let settings = ActorSettings {
+        home: 2,
+        role: Role::Scaler(scaler),
+    };
+    let mut actor = Actor::new(alloc, 9, settings, 0);
+    same(rt, actor.wake(), Some(5000));
+    live(rt, alloc, &mut actor, steps);
+}
+
+#[test]
+fn scaler_adds_and_takes_copies_by_what_is_visible(rt: HostRuntime) {
+    let life: &[Step] = &[
+        (5000, Told::By(10, None), "nothing", Some(15_000)),
+        (15_000, Told::By(11, None), "scale 1 2", Some(25_000)),
+        (15_000, Told::Other, "nothing", Some(25_000)),
+        (25_000, Told::By(900, None), "scale 2 4", Some(35_000)),
+        (35_000, Told::By(900, None), "scale 4 5", Some(45_000)),
+        (45_000, Told::By(0, None), "scale 5 4", Some(55_000)),
+        (55_000, Told::By(40, None), "nothing", Some(65_000)),
+    ];
+    scale(&rt, rt.alloc(), scaler(0, 0, 0), life);
+}
+
+#[test]
+fn scaler_waits_for_its_cooldowns(rt: HostRuntime) {
+    // The start of the run counts as a change: it adds none before 15 s, and takes none within 30 s.
+    let life: &[Step] = &[
+        (5000, Told::By(50, None), "nothing", Some(15_000)),
+        (15_000, Told::By(50, None), "scale 1 3", Some(25_000)),
+        (25_000, Told::By(50, None), "nothing", Some(35_000)),
+        (35_000, Told::By(0, None), "nothing", Some(45_000)),
+        (45_000, Told::By(0, None), "scale 3 2", Some(55_000)),
+    ];
+    scale(&rt, rt.alloc(), scaler(0, 15_000, 30_000), life);
+}
+
+#[test]
+fn scaler_decides_by_what_it_read_before(rt: HostRuntime) {
+    let life: &[Step] = &[
+        (5000, Told::By(20, None), "nothing", Some(9000)),
+        (9000, Told::By(0, None), "scale 1 2", Some(15_000)),
+        (15_000, Told::By(0, None), "nothing", Some(19_000)),
+        (19_000, Told::By(90, None), "scale 2 1", Some(25_000)),
+    ];
+    scale(&rt, rt.alloc(), scaler(4000, 0, 0), life);
 }
 
 #[test]

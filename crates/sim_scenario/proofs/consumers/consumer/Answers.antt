@@ -57,10 +57,14 @@ pub returns-in_err-stop : goal.returns-in_err-stop
 unfolding service
 returns-in_err-stop c = way_out _ _ _ _ c.from_residual-in_err-stop.ensures.1 (past _ _ (rw c.version.ensures at c.in_ok-known_consumer_keys.ensures) (past _ _ c.in_ok-start.ensures (past _ _ c.in_ok-batch.ensures (past _ _ c.in_ok-gather.ensures (past _ _ c.in_ok-wait.ensures (past _ _ c.in_ok-timeout.ensures (past _ _ c.in_ok-service.ensures (past _ _ c.in_ok-serving.ensures (past _ _ c.in_ok-fail_service.ensures (past _ _ c.in_ok-fail_permille.ensures (past _ _ c.in_ok-idle.ensures (past _ _ (rw c.has.ensures at c.in_ok-forward.ensures) (fails_first _ _ _ c.in_err-stop.ensures)))))))))))))
 
+pub returns-in_err-scaling : goal.returns-in_err-scaling
+unfolding service
+returns-in_err-scaling c = way_out _ _ _ _ c.from_residual-in_err-scaling.ensures.1 (past _ _ (rw c.version.ensures at c.in_ok-known_consumer_keys.ensures) (past _ _ c.in_ok-start.ensures (past _ _ c.in_ok-batch.ensures (past _ _ c.in_ok-gather.ensures (past _ _ c.in_ok-wait.ensures (past _ _ c.in_ok-timeout.ensures (past _ _ c.in_ok-service.ensures (past _ _ c.in_ok-serving.ensures (past _ _ c.in_ok-fail_service.ensures (past _ _ c.in_ok-fail_permille.ensures (past _ _ c.in_ok-idle.ensures (past _ _ (rw c.has.ensures at c.in_ok-forward.ensures) (past _ _ c.in_ok-stop.ensures (fails_first _ _ _ (rw c.has-2.ensures at c.in_err-scaling.ensures)))))))))))))))
+
 pub returns-in_err-fails : goal.returns-in_err-fails
 unfolding service
-returns-in_err-fails c = way_out _ _ _ _ c.from_residual-in_err-fails.ensures.1 (past _ _ (rw c.version.ensures at c.in_ok-known_consumer_keys.ensures) (past _ _ c.in_ok-start.ensures (past _ _ c.in_ok-batch.ensures (past _ _ c.in_ok-gather.ensures (past _ _ c.in_ok-wait.ensures (past _ _ c.in_ok-timeout.ensures (past _ _ c.in_ok-service.ensures (past _ _ c.in_ok-serving.ensures (past _ _ c.in_ok-fail_service.ensures (past _ _ c.in_ok-fail_permille.ensures (past _ _ c.in_ok-idle.ensures (past _ _ (rw c.has.ensures at c.in_ok-forward.ensures) (past _ _ c.in_ok-stop.ensures (fails_first _ _ _ c.in_err-fails.ensures))))))))))))))
+returns-in_err-fails c = way_out _ _ _ _ c.from_residual-in_err-fails.ensures.1 (past _ _ (rw c.version.ensures at c.in_ok-known_consumer_keys.ensures) (past _ _ c.in_ok-start.ensures (past _ _ c.in_ok-batch.ensures (past _ _ c.in_ok-gather.ensures (past _ _ c.in_ok-wait.ensures (past _ _ c.in_ok-timeout.ensures (past _ _ c.in_ok-service.ensures (past _ _ c.in_ok-serving.ensures (past _ _ c.in_ok-fail_service.ensures (past _ _ c.in_ok-fail_permille.ensures (past _ _ c.in_ok-idle.ensures (past _ _ (rw c.has.ensures at c.in_ok-forward.ensures) (past _ _ c.in_ok-stop.ensures (past _ _ (rw c.has-2.ensures at c.in_ok-scaling.ensures) (fails_first _ _ _ c.in_err-fails.ensures)))))))))))))))
 
 pub returns : goal.returns
 unfolding service and_then
-returns c = rw ((rw c.version.ensures at c.in_ok-known_consumer_keys.ensures), c.in_ok-start.ensures, c.in_ok-batch.ensures, c.in_ok-gather.ensures, c.in_ok-wait.ensures, c.in_ok-timeout.ensures, c.in_ok-service.ensures, c.in_ok-serving.ensures, c.in_ok-fail_service.ensures, c.in_ok-fail_permille.ensures, c.in_ok-idle.ensures, (rw c.has.ensures at c.in_ok-forward.ensures), c.in_ok-stop.ensures, c.in_ok-fails.ensures) refl
+returns c = rw ((rw c.version.ensures at c.in_ok-known_consumer_keys.ensures), c.in_ok-start.ensures, c.in_ok-batch.ensures, c.in_ok-gather.ensures, c.in_ok-wait.ensures, c.in_ok-timeout.ensures, c.in_ok-service.ensures, c.in_ok-serving.ensures, c.in_ok-fail_service.ensures, c.in_ok-fail_permille.ensures, c.in_ok-idle.ensures, (rw c.has.ensures at c.in_ok-forward.ensures), c.in_ok-stop.ensures, (rw c.has-2.ensures at c.in_ok-scaling.ensures), c.in_ok-fails.ensures) refl

@@ -4,7 +4,7 @@ use Rattle.toml.specs.Data.{Data}
 use Rattle.toml.specs.View.{view}
 use Rattle.sqs_formats.specs.Copies.{copies_asked, copies_within, names_taken}
 use Rattle.sqs_formats.specs.Keys.{text_in}
-use Rattle.sqs_formats.specs.Outline.{room_beside}
+use Rattle.sqs_formats.specs.Outline.{room_beside, scalers_from}
 use Rattle.sim_scenario.specs.Counted.{copies_before}
 use Rattle.sim_scenario.proofs.Copying.{are_laid, within_few}
 use Rattle.sim_scenario.proofs.outline.Outline.new.Goals as goal
@@ -58,6 +58,8 @@ returns c =
     c.saturating_sub-room.ensures ∙ (λ j. 10000 - (sym (length-map c.args.actors.now view) j + sym (length-map c.args.tasks.now view) j)) in
     let counted : copies ≡ copies_within (room_beside actors tasks) (map (copies_asked c.args.version) actors) =
     c.in_ok-copies.ensures ∙ ap (λ r. copies_within r (map (copies_asked c.args.version) actors)) room in
+    let scalers_at : scalers_from (length c.args.queues.now) actors ≡ scalers_from (length (named queues)) actors =
+    ap (λ n. scalers_from n actors) (sym (length-map queues (text_in (codes "name")) ∙ length-map c.args.queues.now view)) in
     λ j. record {
       version = c.args.version;
       names = (laid.whole ∙ ap (λ cs. named queues ++ (names_taken (named actors) cs ++ named tasks)) counted) j;
@@ -66,4 +68,5 @@ returns c =
       tasks = laid.back j;
       task_homes = c.in_ok-task_homes.ensures j;
       dead_letters = (c.in_ok-dead_letters-2.ensures ∙ c.in_ok-dead_letters.ensures) j;
+      scalers = (c.in_ok-scalers.ensures ∙ scalers_at) j;
     }
