@@ -150,6 +150,8 @@ module _ (key : Key) where
   of_next u past c agent q m g x t s o =
       record {
         given = λ e. cc;
+        sends = λ e. cc;
+        enters = λ e. cc;
         repeats = λ e. cc;
         next = λ e f n one i h.
             let id : g.id ≡ id_of q n = cc in
