@@ -108,7 +108,7 @@ told s sound rows key q r p d g h =
           ap (λ x. elim x as (λ _. Bool) [ None ↦ false | Some y ↦ is_fifo y.kind ]) own ∙ (g.repeats t).fifo;
       recent = λ t.
           let x : RepeatsEntry s q r = g.repeats t in
-          let e : Entered rows q x.entry = h.entered x.entry x.there in
+          let e : Entered s rows q x.entry = h.entered x.entry x.there in
           record {
             message = id_of q x.entry.number;
             by = e.by;

@@ -1,6 +1,6 @@
 -- The groups that actors give to what they send to FIFO queues.
 use Rattle.std.specs.Fmt.{decimal}
-use Rattle.std.specs.Prelude.{Bool, List, None, Option, Some, length, slice_get, suc, zero, ℕ, ◌+◌, ◌-◌, ◌≡◌}
+use Rattle.std.specs.Prelude.{List, None, Option, Some, length, slice_get, suc, zero, ℕ, ◌+◌, ◌-◌, ◌≡◌}
 use Rattle.sim_engine.specs.Members.{In}
 use Rattle.sqs_message.specs.declared.calls.Call.{Call}
 use Rattle.sqs_message.specs.declared.calls.Call.TheVariants as calls
