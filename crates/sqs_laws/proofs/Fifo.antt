@@ -14,7 +14,7 @@ use Rattle.sqs_model.specs.Queue.{Queue, id_of, numbered, same_group}
 use Rattle.sqs_model.specs.Run.{IsRunOf, Run}
 use Rattle.sqs_model.specs.Scenario.{Scenario}
 use Rattle.sqs_model.specs.Texts.{same_text_decides}
-use Rattle.sqs_laws.specs.Groups.{Given, GivesAs, IsByCall, IsSender, WasGiven}
+use Rattle.sqs_laws.specs.Sends.{Given, GivesAs, IsByCall, IsSender, WasGiven}
 use Rattle.sqs_laws.specs.Laws.{FifoOrder, Sends, fifo_at, is_fifo}
 use Rattle.sqs_laws.specs.Words.{EachRow, flight, flying, has_left}
 use Rattle.sqs_laws.specs.Words as words

@@ -35,7 +35,7 @@ use Rattle.sqs_model.proofs.EachDue.{of_site}
 use Rattle.sqs_model.proofs.Effects.{time_least}
 use Rattle.sqs_model.proofs.Members.{In, found_by_number}
 use Rattle.sqs_model.proofs.Opening.{wakes_first}
-use Rattle.sqs_laws.specs.Groups.{Given, GivesAs, GivesAt, IsSender, after_gap, given_in, message_given, next_sending, sending}
+use Rattle.sqs_laws.specs.Sends.{Given, GivesAs, GivesAt, IsSender, after_gap, given_in, message_given, next_sending, sending}
 
 -- a script waits for its next call, and a producer for its next message
 abbrev pub Waits : ℕ → Role → Actor → Type 0

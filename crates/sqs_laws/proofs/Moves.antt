@@ -37,7 +37,7 @@ use Rattle.sqs_model.proofs.Counts.{all_changed, all_without, ascends_changed, a
 use Rattle.sqs_model.proofs.Members.{In, of_all}
 use Rattle.sqs_model.proofs.Numbered.{Climbs}
 use Rattle.sqs_model.proofs.SiteAccounts.{IsFound}
-use Rattle.sqs_laws.specs.Groups.{Given, GivesAs, IsByCall, IsSender, key_given}
+use Rattle.sqs_laws.specs.Sends.{Given, GivesAs, IsByCall, IsSender, key_given}
 use Rattle.sqs_laws.specs.Laws.{is_fifo}
 use Rattle.sqs_laws.specs.Words as words
 

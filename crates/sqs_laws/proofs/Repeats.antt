@@ -15,7 +15,7 @@ use Rattle.sqs_model.specs.Scenario.{Scenario}
 use Rattle.sqs_model.proofs.Members.{In, of_all}
 use Rattle.std.proofs.lemmas.Bool.{and_parts}
 use Rattle.sqs_model.specs.Progress.{IsSoundScenario}
-use Rattle.sqs_laws.specs.Groups.{key_given}
+use Rattle.sqs_laws.specs.Sends.{key_given}
 use Rattle.sqs_laws.specs.Laws.{Repeats, RepeatsRecent, fifo_at, is_fifo}
 use Rattle.sqs_laws.specs.Words.{EachRow, came_by, is_send, names}
 use Rattle.sqs_laws.specs.Words as words

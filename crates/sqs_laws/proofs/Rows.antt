@@ -61,7 +61,7 @@ use Rattle.sqs_model.proofs.CallWalk.{IsNameless, TellsOfNone}
 use Rattle.sqs_model.proofs.Counts.{changed_twice, find_all, find_picked, without_changed}
 use Rattle.sqs_model.proofs.Members.{In, all_in, in_append, of_all}
 use Rattle.sqs_model.proofs.SiteAccounts.{IsFound}
-use Rattle.sqs_laws.specs.Groups.{Given, GivesAs, IsSender, key_given, scope_given}
+use Rattle.sqs_laws.specs.Sends.{Given, GivesAs, IsSender, key_given, scope_given}
 use Rattle.sqs_laws.specs.Laws.{is_fifo}
 use Rattle.sqs_laws.specs.Words as words
 use Rattle.sqs_laws.proofs.Calls.{Told, back_told, found_old, one_back, own_changed, pushed_found, pushed_out, tells}

@@ -13,7 +13,7 @@ use Rattle.sqs_model.specs.Queue.{Queue, id_of, numbered, taken_out, with_change
 use Rattle.sqs_model.specs.Receive.{received}
 use Rattle.sqs_model.specs.Return.{visible_again}
 use Rattle.sqs_model.specs.Scenario.{Scenario}
-use Rattle.sqs_laws.specs.Groups.{Given, GivesAs}
+use Rattle.sqs_laws.specs.Sends.{Given, GivesAs}
 use Rattle.sqs_laws.specs.Laws.{is_fifo}
 use Rattle.sqs_laws.specs.Words.{EachRow, is_send, names, sent_by}
 use Rattle.sqs_laws.specs.Words as words

@@ -22,7 +22,7 @@ use Rattle.sqs_model.specs.declared.finals.FinalMessage.{FinalMessage}
 use Rattle.sqs_model.specs.declared.finals.FinalTransfer.{FinalTransfer}
 use Rattle.sqs_model.specs.Longest.{deduplication_interval}
 use Rattle.sqs_model.specs.Scenario.{Scenario, least_latency}
-use Rattle.sqs_laws.specs.Groups.{Given, GivesAs, IsByCall, IsSender, WasGiven, key_given}
+use Rattle.sqs_laws.specs.Sends.{Given, GivesAs, IsByCall, IsSender, WasGiven, key_given}
 use Rattle.sqs_laws.specs.Words.{EachNaming, EachRow, arrives_at, came_by, changed, comes, comings, flight, flying, goes_to, has_left, in_flight_at, is_change, is_delete, is_gone, is_in_flight, is_move, is_redrive, is_release, is_repeat, is_send, may_follow, origin_of, received, sent_by, that_stay, times}
 
 -- The end is the end. The messages that come to a queue are numbered from 0 on, and no row names one before it comes.
@@ -152,8 +152,8 @@ SendTheSame s r x =
     → (a b : Given) → GivesAs s r.agent r.key.at a → GivesAs s x.agent x.key.at b
     → key_given q.kind a ≡ key_given q.kind b
 
--- a row of a queue repeats a message: by another row that message came there, less than 5 minutes before, and if both are
--- sends they send the same
+-- a row of a queue repeats a message: by another row that message came there, less than 5 minutes before, and if both
+-- are sends they send the same
 pub record RepeatsRecent (s : Scenario) (before : List Row) (r : Row) : Type 0 where
   pub message : MessageId
   pub by : Row
@@ -163,8 +163,8 @@ pub record RepeatsRecent (s : Scenario) (before : List Row) (r : Row) : Type 0 w
   pub same : SendTheSame s r by
 
 -- Repeats. A row with the answer repeat is of a FIFO queue, and names a message that came there less than 5 minutes
--- before. If it is of a send and the message was sent, both sends have one deduplication id, in one scope. At a standard
--- queue nothing is a repeat.
+-- before. If it is of a send and the message was sent, both sends have one deduplication id, in one scope. At a
+-- standard queue nothing is a repeat.
 pub record Repeats (s : Scenario) (rows : List Row) : Type 0 where
   pub fifo : EachRow rows (λ before r. IsTrue (is_repeat r.answer) → IsTrue (fifo_at s r))
   pub recent : EachRow rows (λ before r. IsTrue (is_repeat r.answer) → RepeatsRecent s before r)

@@ -1,4 +1,4 @@
--- The groups that actors give to what they send to FIFO queues.
+-- What actors give to what they send: a body, a group and a deduplication id.
 use Rattle.std.specs.Fmt.{decimal}
 use Rattle.std.specs.Prelude.{List, None, Option, Some, length, slice_get, suc, zero, ℕ, ◌+◌, ◌-◌, ◌≡◌}
 use Rattle.sim_engine.specs.Members.{In}
