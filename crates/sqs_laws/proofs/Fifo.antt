@@ -21,7 +21,7 @@ use Rattle.sqs_laws.specs.Words as words
 use Rattle.sqs_laws.proofs.Calls.{found_old}
 use Rattle.sqs_laws.proofs.End as end
 use Rattle.sqs_laws.proofs.Flights.{flights}
-use Rattle.sqs_laws.proofs.Moves.{Does, IsNext, IsOfGroup, IsStocked, Move, Receives, changes, comes, ends, receives, redrives, releases, stays}
+use Rattle.sqs_laws.proofs.Moves.{Does, IsNext, IsBehind, IsStocked, Move, Receives, changes, comes, ends, receives, redrives, releases, stays}
 use Rattle.sqs_laws.proofs.Sends.{sends}
 use Rattle.sqs_laws.proofs.Worlds.{RowLaw, both, every_row_by}
 
@@ -37,7 +37,7 @@ module _ (s : Scenario) (sound : IsSoundScenario s) where
   abbrev Tells : List Row → Row → Type 0
   Tells before r = (m : MessageId) → r.message ≡ Some m → (words.received r && fifo_at s r) ≡ true → (n : MessageId) (g : List ℕ) → n.site ≡ r.queue → WasGiven s before m g → WasGiven s before n g → IsAsTold before r m n
 
-  module _ (rows : List Row) (key : Key) (q : Queue) (r : Row) (p : Queue) (d : Move key q r p) (o : IsOfGroup s rows q r p) (k : IsStocked q) (h : told.Holds rows q) where
+  module _ (rows : List Row) (key : Key) (q : Queue) (r : Row) (p : Queue) (d : Move key q r p) (o : IsBehind s rows q r p) (k : IsStocked q) (h : told.Holds rows q) where
     fifo : fifo_at s r ≡ true → is_fifo q.settings.kind ≡ true
     fifo e =
         let own : slice_get s.queues r.queue ≡ Some q.settings = ap (λ n. slice_get s.queues n) d.at_site ∙ h.0.settings in

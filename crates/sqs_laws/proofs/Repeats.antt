@@ -19,7 +19,7 @@ use Rattle.sqs_laws.specs.Sends.{key_given}
 use Rattle.sqs_laws.specs.Laws.{Repeats, RepeatsRecent, fifo_at, is_fifo}
 use Rattle.sqs_laws.specs.Words.{EachRow, came_by, is_send, names}
 use Rattle.sqs_laws.specs.Words as words
-use Rattle.sqs_laws.proofs.Moves.{Comes, Does, HasKey, IsEntered, IsOfGroup, IsStocked, Move, RepeatsEntry, changes, comes, ends, receives, redrives, releases, stays}
+use Rattle.sqs_laws.proofs.Moves.{Comes, Does, HasKey, IsEntered, IsBehind, IsStocked, Move, RepeatsEntry, changes, comes, ends, receives, redrives, releases, stays}
 use Rattle.sqs_laws.proofs.Said.{names_apart, names_other, names_same}
 use Rattle.sqs_laws.proofs.Worlds.{NamesOwn, RowLaw, every_row_by}
 
@@ -41,7 +41,7 @@ record Says (s : Scenario) (rows : List Row) (q : Queue) : Type 0 where
   pub settings : slice_get s.queues q.site ≡ Some q.settings
   pub entered : (e : Entry) → In q.entries e → Entered s rows q e
 
-module _ (s : Scenario) (key : Key) (rows : List Row) (q : Queue) (r : Row) (p : Queue) (k : IsStocked q) (at_key : r.key ≡ key) (o : IsOfGroup s rows q r p) (h : Says s rows q) where
+module _ (s : Scenario) (key : Key) (rows : List Row) (q : Queue) (r : Row) (p : Queue) (k : IsStocked q) (at_key : r.key ≡ key) (o : IsBehind s rows q r p) (h : Says s rows q) where
   other : (e : Entry) → (words.comes r && names (id_of q e.number) r) ≡ false → Entered s rows q e → Entered s (rows ++ r ∷ []) q e
   other e n x = record { by = x.by; came = came_as (id_of q e.number) rows r false n ∙ x.came; ends = x.ends; same = x.same }
 
@@ -100,7 +100,7 @@ record IsAsTold (s : Scenario) (before : List Row) (r : Row) : Type 0 where
   pub fifo : words.is_repeat r.answer ≡ true → fifo_at s r ≡ true
   pub recent : words.is_repeat r.answer ≡ true → RepeatsRecent s before r
 
-told : (s : Scenario) → IsSoundScenario s → (rows : List Row) (key : Key) (q : Queue) (r : Row) (p : Queue) → Move key q r p → IsOfGroup s rows q r p → Says s rows q → IsAsTold s rows r
+told : (s : Scenario) → IsSoundScenario s → (rows : List Row) (key : Key) (q : Queue) (r : Row) (p : Queue) → Move key q r p → IsBehind s rows q r p → Says s rows q → IsAsTold s rows r
 told s sound rows key q r p d g h =
     record {
       fifo = λ t.

@@ -68,7 +68,7 @@ use Rattle.sqs_laws.proofs.Calls.{Told, back_told, found_old, one_back, own_chan
 use Rattle.sqs_laws.proofs.Gives.{Gives}
 use Rattle.sqs_laws.proofs.Giving.{visible_available}
 use Rattle.sqs_laws.proofs.Naming.{found_in}
-use Rattle.sqs_laws.proofs.Moves.{HasKey, Asks, AsksChange, AsksDelete, Chain, IsEntered, IsNoReceipt, IsOfGroup, RepeatsEntry, changed_answer, deleted_answer, chain_keeps, Does, IsStocked, Keeps, Move, Stays, Tells, changes, chain_append, comes, ends, of_none, one_move, stays, tells_none}
+use Rattle.sqs_laws.proofs.Moves.{HasKey, Asks, AsksChange, AsksDelete, Chain, IsEntered, IsNoReceipt, IsBehind, RepeatsEntry, changed_answer, deleted_answer, chain_keeps, Does, IsStocked, Keeps, Move, Stays, Tells, changes, chain_append, comes, ends, of_none, one_move, stays, tells_none}
 
 -- what a row of none tells
 abbrev SaysNothing : RowKind → RowAnswer → Type 0
@@ -113,7 +113,7 @@ quiet_move key c q r e i =
       does = stays (nameless_stays key q r i.nameless (let n : SaysNothing r.kind r.answer = says_nothing r.kind r.answer i.kind in tells r false false false false false n.0 n.1 n.2 n.3 n.4));
     }
 
-pub nameless_none : (u : Scenario) (past : List Row) {key : Key} {c : Core} (q : Queue) (r : Row) → IsNameless key c r → IsOfGroup u past q r q
+pub nameless_none : (u : Scenario) (past : List Row) {key : Key} {c : Core} (q : Queue) (r : Row) → IsNameless key c r → IsBehind u past q r q
 nameless_none u past q r i =
     let n : SaysNothing r.kind r.answer = says_nothing r.kind r.answer i.kind in tells_none u past q r q false false false (tells r false false false false false n.0 n.1 n.2 n.3 n.4) n.5
 
@@ -134,7 +134,7 @@ module _ (u : Scenario) (past : List Row) (key : Key) where
         gone = λ h i e. let s : id_of q n ≡ i = cc in subst (λ (x : MessageId). numbered x.number q.records ≡ None) s (g h);
       }
 
-  one_row : (c d : Core) (r : Row) → r.key ≡ key → r.queue ≡ c.queue.site → d.actors ≡ c.actors → Asks key c.queue r r.kind → Does key c.queue r d.queue → IsOfGroup u past c.queue r d.queue → IsChain c (says d r)
+  one_row : (c d : Core) (r : Row) → r.key ≡ key → r.queue ≡ c.queue.site → d.actors ≡ c.actors → Asks key c.queue r r.kind → Does key c.queue r d.queue → IsBehind u past c.queue r d.queue → IsChain c (says d r)
   one_row c d r k s a y h g = record { chain = one_move u past key c.queue r d.queue (record { at_key = k; at_site = s; asked = y; does = h }) g; actors = a }
 
   -- services

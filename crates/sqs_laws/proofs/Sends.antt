@@ -19,7 +19,7 @@ use Rattle.sqs_laws.specs.Words.{EachRow, is_send, names, sent_by}
 use Rattle.sqs_laws.specs.Words as words
 use Rattle.sqs_laws.proofs.Calls.{found_old, pushed_found}
 use Rattle.sqs_laws.proofs.Each.{each_changed, each_pushed, each_taken}
-use Rattle.sqs_laws.proofs.Moves.{Comes, Does, IsOfGroup, IsStocked, changes, comes, ends, receives, redrives, releases, stays}
+use Rattle.sqs_laws.proofs.Moves.{Comes, Does, IsBehind, IsStocked, changes, comes, ends, receives, redrives, releases, stays}
 use Rattle.sqs_laws.proofs.Said.{names_apart, names_other, names_same}
 use Rattle.sqs_laws.proofs.Worlds.{NamesOwn, RowLaw}
 
@@ -44,7 +44,7 @@ pub record Says (s : Scenario) (rows : List Row) (q : Queue) : Type 0 where
   pub told : (n : ℕ) (m : Message) → numbered n q.records ≡ Some m → (by : Row) → sent_by (id_of q n) rows ≡ Some by → WasSent s (is_fifo q.settings.kind) m by
   pub fresh : (n : ℕ) → q.arrivals ≤ n → sent_by (id_of q n) rows ≡ None
 
-module _ (s : Scenario) (key : Key) (rows : List Row) (q : Queue) (r : Row) (p : Queue) (k : IsStocked q) (at_key : r.key ≡ key) (o : IsOfGroup s rows q r p) (h : Says s rows q) where
+module _ (s : Scenario) (key : Key) (rows : List Row) (q : Queue) (r : Row) (p : Queue) (k : IsStocked q) (at_key : r.key ≡ key) (o : IsBehind s rows q r p) (h : Says s rows q) where
   abbrev IsTold : ℕ → Message → Type 0
   IsTold n m = (by : Row) → sent_by (id_of q n) (rows ++ r ∷ []) ≡ Some by → WasSent s (is_fifo q.settings.kind) m by
 
