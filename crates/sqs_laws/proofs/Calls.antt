@@ -33,7 +33,7 @@ use Rattle.sqs_model.proofs.Numbered.{Apart, one_number, other_without}
 use Rattle.sqs_model.proofs.SiteAccounts.{IsFound}
 use Rattle.sqs_laws.specs.Laws.{is_fifo}
 use Rattle.sqs_laws.specs.Words as words
-use Rattle.sqs_laws.proofs.Moves.{Chain, IsNext, IsOfGroup, IsStocked, Move, Tells, chain_append, of_none, one_move, receives, redrives, releases}
+use Rattle.sqs_laws.proofs.Moves.{Chain, IsNext, IsBehind, IsStocked, Move, Tells, chain_append, of_none, one_move, receives, redrives, releases}
 
 -- what a row tells, each as it computes
 pub tells : (r : Row) (a b c d e : Bool) → words.comes r ≡ a → words.received r ≡ b → words.changed r ≡ c → words.is_release r.kind ≡ d → words.leaves r ≡ e → Tells r a b c d e
@@ -146,10 +146,12 @@ module _ (key : Key) where
       (is_fifo q.settings.kind ≡ true → IsNext past q (got_row key c agent g) m.number m)
       × AreNext c agent timeout (past ++ got_row key c agent g ∷ []) ms gs (with_change q m.number (received key.at timeout))
 
-  of_next : (u : Scenario) (past : List Row) (c : Core) (agent : ℕ) (q : Queue) (m : Message) (g : Got) (x : Queue) → IsToldOf q.site m g → numbered m.number q.records ≡ Some m → (is_fifo q.settings.kind ≡ true → IsNext past q (got_row key c agent g) m.number m) → IsOfGroup u past q (got_row key c agent g) x
+  of_next : (u : Scenario) (past : List Row) (c : Core) (agent : ℕ) (q : Queue) (m : Message) (g : Got) (x : Queue) → IsToldOf q.site m g → numbered m.number q.records ≡ Some m → (is_fifo q.settings.kind ≡ true → IsNext past q (got_row key c agent g) m.number m) → IsBehind u past q (got_row key c agent g) x
   of_next u past c agent q m g x t s o =
       record {
         given = λ e. cc;
+        sends = λ e. cc;
+        enters = λ e. cc;
         repeats = λ e. cc;
         next = λ e f n one i h.
             let id : g.id ≡ id_of q n = cc in

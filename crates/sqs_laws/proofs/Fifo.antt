@@ -1,24 +1,27 @@
 -- FIFO: the messages of a group are received in the order in which they came, and none while another one is in flight.
-use Rattle.std.specs.Prelude.{Bool, List, None, Option, Some, false, is_none, slice_get, true, ℕ, ◌&&◌, ◌<◌, ◌≡◌}
+use Rattle.std.specs.Prelude.{Bool, List, None, Option, Some, false, is_none, length, slice_get, true, ℕ, ◌&&◌, ◌-◌, ◌<◌, ◌≡◌}
 use Rattle.std.proofs.Common.{ap, arith, refl, subst, sym, true≢false, ◌∙◌}
 use Rattle.std.proofs.lemmas.Bool.{and_parts}
 use Rattle.sim_clock.specs.declared.key.Key.{Key}
 use Rattle.sqs_message.specs.declared.ids.MessageId.{MessageId}
 use Rattle.sqs_message.specs.declared.message.Message.{Message}
+use Rattle.md5.specs.Md5.{md5}
+use Rattle.sqs_message.specs.declared.row.Detail.TheVariants as details
+use Rattle.sqs_model.specs.declared.agents.ActorSettings.{ActorSettings}
 use Rattle.sqs_message.specs.declared.row.Row.{Row}
 use Rattle.sqs_model.specs.Progress.{IsSoundScenario}
 use Rattle.sqs_model.specs.Queue.{Queue, id_of, numbered, same_group}
 use Rattle.sqs_model.specs.Run.{IsRunOf, Run}
 use Rattle.sqs_model.specs.Scenario.{Scenario}
 use Rattle.sqs_model.specs.Texts.{same_text_decides}
-use Rattle.sqs_laws.specs.Groups.{IsByCall, WasGiven}
-use Rattle.sqs_laws.specs.Laws.{FifoOrder, fifo_at, is_fifo}
+use Rattle.sqs_laws.specs.Sends.{Given, GivesAs, IsByCall, IsSender, WasGiven}
+use Rattle.sqs_laws.specs.Laws.{FifoOrder, Sends, fifo_at, is_fifo}
 use Rattle.sqs_laws.specs.Words.{EachRow, flight, flying, has_left}
 use Rattle.sqs_laws.specs.Words as words
 use Rattle.sqs_laws.proofs.Calls.{found_old}
 use Rattle.sqs_laws.proofs.End as end
 use Rattle.sqs_laws.proofs.Flights.{flights}
-use Rattle.sqs_laws.proofs.Moves.{Does, IsNext, IsOfGroup, IsStocked, Move, Receives, changes, comes, ends, receives, redrives, releases, stays}
+use Rattle.sqs_laws.proofs.Moves.{Does, IsNext, IsBehind, IsStocked, Move, Receives, changes, comes, ends, receives, redrives, releases, stays}
 use Rattle.sqs_laws.proofs.Sends.{sends}
 use Rattle.sqs_laws.proofs.Worlds.{RowLaw, both, every_row_by}
 
@@ -34,14 +37,14 @@ module _ (s : Scenario) (sound : IsSoundScenario s) where
   abbrev Tells : List Row → Row → Type 0
   Tells before r = (m : MessageId) → r.message ≡ Some m → (words.received r && fifo_at s r) ≡ true → (n : MessageId) (g : List ℕ) → n.site ≡ r.queue → WasGiven s before m g → WasGiven s before n g → IsAsTold before r m n
 
-  module _ (rows : List Row) (key : Key) (q : Queue) (r : Row) (p : Queue) (d : Move key q r p) (o : IsOfGroup s rows q r p) (k : IsStocked q) (h : told.Holds rows q) where
+  module _ (rows : List Row) (key : Key) (q : Queue) (r : Row) (p : Queue) (d : Move key q r p) (o : IsBehind s rows q r p) (k : IsStocked q) (h : told.Holds rows q) where
     fifo : fifo_at s r ≡ true → is_fifo q.settings.kind ≡ true
     fifo e =
         let own : slice_get s.queues r.queue ≡ Some q.settings = ap (λ n. slice_get s.queues n) d.at_site ∙ h.0.settings in
         sym (ap (λ x. elim x as (λ _. Bool) [ None ↦ false | Some y ↦ is_fifo y.kind ]) own) ∙ e
 
     group_is : is_fifo q.settings.kind ≡ true → (i : ℕ) (m : Message) (g : List ℕ) → numbered i q.records ≡ Some m → WasGiven s rows (id_of q i) g → m.group ≡ Some g
-    group_is f i m g e (by, t, y) = (h.0.told i m e by t).group f sound.actors g y
+    group_is f i m g e (by, t, x, y, z) = (h.0.told i m e by t).group f sound.actors x y ∙ z
 
     alike : (a b : Message) (g : List ℕ) → a.group ≡ Some g → b.group ≡ Some g → same_group a b ≡ true
     alike a b g x y = (same_text_decides a.group b.group).1 (x ∙ sym y)
@@ -92,3 +95,7 @@ module _ (s : Scenario) (sound : IsSoundScenario s) where
         before = λ before r after e m i t n g w a b l. (each before r after e m i t n g w a b).earlier l;
         after = λ before r after e m i t n g w a b l. (each before r after e m i t n g w a b).later l;
       }
+
+-- each send is what its actor gives
+pub sends_are_given : (s : Scenario) (x : Run) → IsRunOf s x → Sends s x.rows
+sends_are_given s x is = record { given = every_row_by s (sends s) (λ before r. (words.is_send r.kind && words.comes r) ≡ true → (a : ActorSettings) → slice_get s.actors (r.agent - length s.queues) ≡ Some a → IsSender a.role → (y : Given) × GivesAs s r.agent r.key.at y × (r.detail ≡ details.Digest (md5 y.body))) (λ rows key q r p d g k h j. g.sends) x is }

@@ -19,7 +19,9 @@ use Rattle.sqs_model.specs.declared.agents.ConsumerSettings.{ConsumerSettings}
 use Rattle.sqs_model.specs.declared.agents.ProducerSettings.{ProducerSettings}
 use Rattle.sqs_model.specs.declared.agents.Role.{Role}
 use Rattle.sqs_model.specs.declared.agents.Role.TheVariants.{Consumer, Producer, Script}
-use Rattle.sqs_model.specs.Actor.{Actor, act_of, first_at, group_of, has_come, next, next_as, producer_sends, script_wake, wakes_after, woken}
+use Rattle.std.specs.Fmt.{decimal}
+use Rattle.sqs_message.specs.Bodies.{filled}
+use Rattle.sqs_model.specs.Actor.{Actor, id_given, act_of, first_at, group_of, has_come, next, next_as, producer_sends, script_wake, wakes_after, woken}
 use Rattle.sqs_model.specs.Draw.{Draws, drawn_time}
 use Rattle.sqs_model.specs.Dues.{dues}
 use Rattle.sqs_model.specs.Progress.{Ascends, IsSoundDistribution, IsSoundRole, WakesFor}
@@ -33,7 +35,7 @@ use Rattle.sqs_model.proofs.EachDue.{of_site}
 use Rattle.sqs_model.proofs.Effects.{time_least}
 use Rattle.sqs_model.proofs.Members.{In, found_by_number}
 use Rattle.sqs_model.proofs.Opening.{wakes_first}
-use Rattle.sqs_laws.specs.Groups.{GivesAs, GivesAt, after_gap, group_in, next_sending, sending}
+use Rattle.sqs_laws.specs.Sends.{Given, GivesAs, GivesAt, IsSender, after_gap, given_in, message_given, next_sending, sending}
 
 -- a script waits for its next call, and a producer for its next message
 abbrev pub Waits : ℕ → Role → Actor → Type 0
@@ -67,12 +69,13 @@ not_sent seed (Consumer c) at a h = tt
 -- what an act says of groups: what is sent has the group that the settings tell
 abbrev Tells : ℕ → Role → ℕ → Act → Actor → Type 0
 Tells seed role at (acts.Send body delay group id) b =
-    (IsSoundRole role → (g : List ℕ) → GivesAt (opening_draws seed b.number) role at g → group ≡ Some g) × HasSent seed role at b
+    (IsSender role → GivesAt (opening_draws seed b.number) role at (record { body = body; group = group; id = id }))
+    × (IsSoundRole role → (x : Given) → GivesAt (opening_draws seed b.number) role at x → record { body = body; group = group; id = id } ≡ x) × HasSent seed role at b
 Tells seed role at acts.Nothing b = Unit {0}
 Tells seed role at act b = IsNoProducer role
 
 untold : (seed : ℕ) (c : ConsumerSettings) (at : ℕ) (x : Act) (b : Actor) → Tells seed (Consumer c) at x b
-untold seed c at (acts.Send body delay group id) b = (λ s g f. absurd f, tt)
+untold seed c at (acts.Send body delay group id) b = (λ s. absurd s, λ s g f. absurd f, tt)
 untold seed c at (acts.Receive max wait timeout) b = tt
 untold seed c at (acts.Delete text) b = tt
 untold seed c at (acts.Change text timeout) b = tt
@@ -82,13 +85,13 @@ untold seed c at (acts.Cancel task) b = tt
 untold seed c at (acts.Serve id receipt failed forward) b = tt
 untold seed c at acts.Nothing b = tt
 
-called : (seed : ℕ) (cs : List ScriptCall) (at : ℕ) (c : Call) (b : Actor) → (IsSoundRole (Script cs) → (g : List ℕ) → GivesAt (opening_draws seed b.number) (Script cs) at g → group_in c ≡ Some g) → Tells seed (Script cs) at (act_of c) b
-called seed cs at (calls.Send body delay group id) b e = (e, tt)
-called seed cs at (calls.Receive max wait timeout) b e = tt
-called seed cs at (calls.Delete receipt) b e = tt
-called seed cs at (calls.Change receipt timeout) b e = tt
-called seed cs at (calls.Start task) b e = tt
-called seed cs at (calls.Cancel task) b e = tt
+called : (seed : ℕ) (cs : List ScriptCall) (at : ℕ) (c : Call) (b : Actor) → ((x : Given) → given_in c ≡ Some x → GivesAt (opening_draws seed b.number) (Script cs) at x) → (IsSoundRole (Script cs) → (x : Given) → GivesAt (opening_draws seed b.number) (Script cs) at x → given_in c ≡ Some x) → Tells seed (Script cs) at (act_of c) b
+called seed cs at (calls.Send body delay group id) b v e = (λ s. v (record { body = body; group = group; id = id }) refl, λ s x y. let is : Some (record { body = body; group = group; id = id }) ≡ Some x = e s x y in cc, tt)
+called seed cs at (calls.Receive max wait timeout) b v e = tt
+called seed cs at (calls.Delete receipt) b v e = tt
+called seed cs at (calls.Change receipt timeout) b v e = tt
+called seed cs at (calls.Start task) b v e = tt
+called seed cs at (calls.Cancel task) b v e = tt
 
 -- a script's next call is its only one at its moment
 drop_first : (cs : List ScriptCall) (n : ℕ) (c : ScriptCall) (rest : List ScriptCall) → drop n cs ≡ c ∷ rest → In cs c
@@ -108,8 +111,8 @@ script_gives : (seed : ℕ) (a : Actor) (cs : List ScriptCall) (at : ℕ) (rest 
 script_gives seed a cs at [] e w = tt
 script_gives seed a cs at (c ∷ rest) e w =
     let now : c.at ≡ at = cc in
-    called seed cs at c.call (script_wake a (c ∷ rest)).1
-    (λ s g x. let is : x.0 ≡ c = only_then cs c x.0 s (drop_first cs a.wakes c rest e) x.1 (x.2 ∙ sym now) in ap (λ (y : ScriptCall). group_in y.call) (sym is) ∙ x.3)
+    called seed cs at c.call (script_wake a (c ∷ rest)).1 (λ x y. (c, drop_first cs a.wakes c rest e, now, y))
+    (λ s g x. let is : x.0 ≡ c = only_then cs c x.0 s (drop_first cs a.wakes c rest e) x.1 (x.2 ∙ sym now) in ap (λ (y : ScriptCall). given_in y.call) (sym is) ∙ x.3)
 
 script_wakes : (a : Actor) (cs rest : List ScriptCall) → drop a.wakes cs ≡ rest → WakesFor (Script cs) (script_wake a rest).1
 script_wakes a cs [] e = ap first_at (sym e)
@@ -152,11 +155,12 @@ one_message o p m n s e =
 -- a producer's next message
 sends_gives : (seed : ℕ) (a : Actor) (p : ProducerSettings) (at : ℕ) (x : Option (List ℕ) × Draws) → group_of p.groups a.wakes a.draws ≡ x → sending (opening_draws seed a.number) p a.wakes ≡ (at, a.draws) → Tells seed (Producer p) at (producer_sends a p x).0 (producer_sends a p x).1
 sends_gives seed a p at (group, draws) e w = (
+  λ s. (a.wakes, ap (λ (z : ℕ × Draws). z.0) w, ap (λ (z : ℕ × Draws). message_given p a.number a.wakes z.1) w ∙ ap (λ (z : Option (List ℕ) × Draws). record { body = filled (decimal a.wakes) p.body; group = z.0; id = id_given p a.number a.wakes }) e),
   λ s g (i, t, y).
       let o : Draws = opening_draws seed a.number in
       let is : i ≡ a.wakes = one_message o p i a.wakes s (t ∙ sym (ap (λ (z : ℕ × Draws). z.0) w)) in
-      let own : (group_of p.groups a.wakes a.draws).0 ≡ (group_of p.groups i (sending o p i).1).0 = ap (λ (z : ℕ × Draws). (group_of p.groups a.wakes z.1).0) (sym w) ∙ ap (λ k. (group_of p.groups k (sending o p k).1).0) (sym is) in
-      ap (λ (z : Option (List ℕ) × Draws). z.0) (sym e) ∙ own ∙ y,
+      let own : message_given p a.number a.wakes a.draws ≡ message_given p a.number i (sending o p i).1 = ap (λ (z : ℕ × Draws). message_given p a.number a.wakes z.1) (sym w) ∙ ap (λ k. message_given p a.number k (sending o p k).1) (sym is) in
+      ap (λ (z : Option (List ℕ) × Draws). record { body = filled (decimal a.wakes) p.body; group = z.0; id = id_given p a.number a.wakes }) (sym e) ∙ own ∙ y,
   record { n = a.wakes; draws = a.draws; sent = omega arith; now = w; drawn = ap (λ (z : Option (List ℕ) × Draws). z.1) (sym e) },
 )
 
@@ -229,23 +233,28 @@ pub record AreOfScenario (u : Scenario) (actors : List Actor) : Type 0 where
   pub fit : All (Fits u) actors
   pub climb : Ascends (λ a. a.number) 0 actors
 
--- the group that an actor gives at a moment, if the settings tell it
-abbrev pub Gives : Scenario → ℕ → Actor → Option (List ℕ) → Type 0
-Gives u at a group = All (λ x. IsSoundRole x.role) u.actors → (g : List ℕ) → GivesAs u a.number at g → group ≡ Some g
+-- what an actor gives at a moment, by the settings
+abbrev pub Gives : Scenario → ℕ → ℕ → Given → Type 0
+Gives u at agent given =
+    ((x : ActorSettings) → slice_get u.actors (agent - length u.queues) ≡ Some x → IsSender x.role → GivesAs u agent at given)
+    × (All (λ x. IsSoundRole x.role) u.actors → (x : Given) → GivesAs u agent at x → given ≡ x)
 
 abbrev pub MayGive : Scenario → ℕ → Actor → Act → Type 0
-MayGive u at a (acts.Send body delay group id) = Gives u at a group × HasSent u.seed a.settings.role at a
+MayGive u at a (acts.Send body delay group id) = Gives u at a.number (record { body = body; group = group; id = id }) × HasSent u.seed a.settings.role at a
 MayGive u at a acts.Nothing = Unit {0}
 MayGive u at a act = IsNoProducer a.settings.role
 
 may_give : (u : Scenario) (at : ℕ) (a : Actor) (x : Act) → slice_get u.actors (a.number - length u.queues) ≡ Some a.settings → Tells u.seed a.settings.role at x a → MayGive u at a x
 may_give u at a (acts.Send body delay group id) f h = (
-  λ s g (x, e, y).
-      let is : x ≡ a.settings = let both : Some x ≡ Some a.settings = sym e ∙ f in cc in
-      let i : ℕ = a.number - length u.queues in
-      let role : IsSoundRole a.settings.role = subst (λ (z : ActorSettings). IsSoundRole z.role) (get_or_from_slice_get u.actors i a.settings a.settings f) (All-get_or (λ z. IsSoundRole z.role) u.actors i a.settings (slice_get_within u.actors i a.settings f) s) in
-      h.0 role g (subst (λ (z : ActorSettings). GivesAt (opening_draws u.seed a.number) z.role at g) is y),
-  h.1,
+  (
+    λ x e w. (a.settings, f, h.0 (let is : x ≡ a.settings = let both : Some x ≡ Some a.settings = sym e ∙ f in cc in subst (λ (z : ActorSettings). IsSender z.role) is w)),
+    λ s g (x, e, y).
+        let is : x ≡ a.settings = let both : Some x ≡ Some a.settings = sym e ∙ f in cc in
+        let i : ℕ = a.number - length u.queues in
+        let role : IsSoundRole a.settings.role = subst (λ (z : ActorSettings). IsSoundRole z.role) (get_or_from_slice_get u.actors i a.settings a.settings f) (All-get_or (λ z. IsSoundRole z.role) u.actors i a.settings (slice_get_within u.actors i a.settings f) s) in
+        h.1 role g (subst (λ (z : ActorSettings). GivesAt (opening_draws u.seed a.number) z.role at g) is y),
+  ),
+  h.2,
 )
 may_give u at a (acts.Receive max wait timeout) f h = h
 may_give u at a (acts.Delete text) f h = h

@@ -127,7 +127,7 @@ module _ (s : Scenario) (valid : All IsQueueSettings s.queues) where
     abbrev HasOrigin : FinalMessage → Type 0
     HasOrigin m = origin_of m.id rows ≡ Some m.origin
 
-    -- it is told of each message of a site
+    -- each message of a site is told
     tells_all : (q : Queue) (Q : FinalMessage → Type 0) → IsStocked q → ((n : ℕ) (m : Message) → numbered n q.records ≡ Some m → n ≡ m.number → Q (final_message q m)) → All Q (map (final_message q) q.records)
     tells_all q Q k h = All-map Q (final_message q) q.records (found_all (λ m. Q (final_message q m)) 0 q.records k.ordered h)
 

@@ -1,5 +1,5 @@
 -- What a row of a handling did to its queue.
-use Rattle.std.specs.Prelude.{All, Bool, Err, List, None, Ok, Option, Result, Some, [], false, true, ℕ, ◌+◌, ◌++◌, ◌<◌, ◌∷◌, ◌≡◌, ◌≤◌, ◌⊎◌, ◌-◌, ◌&&◌, ◌||◌}
+use Rattle.std.specs.Prelude.{All, Bool, length, slice_get, Err, List, None, Ok, Option, Result, Some, [], false, true, ℕ, ◌+◌, ◌++◌, ◌<◌, ◌∷◌, ◌≡◌, ◌≤◌, ◌⊎◌, ◌-◌, ◌&&◌, ◌||◌}
 use Rattle.std.proofs.Common.{ap, arith, inl, inr, refl, subst, sym, true≢false, ◌∙◌}
 use Rattle.std.proofs.Math.Bool.{and-false}
 use Rattle.std.proofs.lemmas.List.{append-nil, append_assoc}
@@ -23,6 +23,8 @@ use Rattle.sqs_redrive.specs.declared.answers.Deleted.TheVariants.{Gone, Kept, R
 use Rattle.sqs_redrive.specs.declared.settings.Policy.{Policy}
 use Rattle.sqs_redrive.specs.declared.transfers.Load.{Load}
 use Rattle.sqs_redrive.specs.MoveTasks.{is_worn}
+use Rattle.md5.specs.Md5.{md5}
+use Rattle.sqs_model.specs.declared.agents.ActorSettings.{ActorSettings}
 use Rattle.sqs_model.specs.Accounts.{is_deleted, is_expired, origin_in}
 use Rattle.sqs_model.specs.Queue.{Entry, Queue, has_number, id_of, in_flight, is_in_flight, is_visible, numbered, same_group, taken_out, with_change}
 use Rattle.sqs_model.specs.Calls.{change, delete, in_flight_until, with_message}
@@ -35,7 +37,7 @@ use Rattle.sqs_model.proofs.Counts.{all_changed, all_without, ascends_changed, a
 use Rattle.sqs_model.proofs.Members.{In, of_all}
 use Rattle.sqs_model.proofs.Numbered.{Climbs}
 use Rattle.sqs_model.proofs.SiteAccounts.{IsFound}
-use Rattle.sqs_laws.specs.Groups.{GivesAs, IsByCall}
+use Rattle.sqs_laws.specs.Sends.{Given, GivesAs, IsByCall, IsSender, key_given}
 use Rattle.sqs_laws.specs.Laws.{is_fifo}
 use Rattle.sqs_laws.specs.Words as words
 
@@ -197,32 +199,39 @@ pub record IsNext (past : List Row) (q : Queue) (r : Row) (n : ℕ) (one : Messa
   pub before : (i : ℕ) (m : Message) → numbered i q.records ≡ Some m → same_group one m ≡ true → i < n → IsByCall r (words.flight (id_of q i) past)
   pub after : (i : ℕ) (m : Message) → numbered i q.records ≡ Some m → same_group one m ≡ true → n < i → is_in_flight m ≡ false
 
+-- what the actor of a send gives has the scope and the deduplication id of an entry
+abbrev pub HasKey : Scenario → Queue → Row → Entry → Type 0
+HasKey s q r e = All (λ a. IsSoundRole a.role) s.actors → (x : Given) → GivesAs s r.agent r.key.at x → key_given q.settings.kind x ≡ (e.scope, Some e.id)
+
 -- a row that repeats a message of a FIFO queue, by a deduplication entry that lives
-pub record RepeatsEntry (q : Queue) (r : Row) : Type 0 where
+pub record RepeatsEntry (s : Scenario) (q : Queue) (r : Row) : Type 0 where
   pub fifo : is_fifo q.settings.kind ≡ true
   pub entry : Entry
   pub there : In q.entries entry
   pub names : r.message ≡ Some (id_of q entry.number)
   pub lives : r.key.at < entry.end
+  pub same : words.is_send r.kind ≡ true → HasKey s q r entry
 
--- what a row at a FIFO queue, after some rows, has to do with groups: what was sent has the group that was given, and what is
--- received is the next of its group
-pub record IsOfGroup (s : Scenario) (past : List Row) (q : Queue) (r : Row) (p : Queue) : Type 0 where
-  pub given : (words.is_send r.kind && words.comes r) ≡ true → is_fifo q.settings.kind ≡ true → (m : Message) → numbered q.arrivals p.records ≡ Some m → All (λ a. IsSoundRole a.role) s.actors → (g : List ℕ) → GivesAs s r.agent r.key.at g → m.group ≡ Some g
+-- What a row has to do with the settings, and with the rows before it. What is sent is what its actor gives, with its group and
+-- with an entry of its deduplication id. What a FIFO queue gives is the next of its group, and what is repeated has an entry.
+pub record IsBehind (s : Scenario) (past : List Row) (q : Queue) (r : Row) (p : Queue) : Type 0 where
+  pub given : (words.is_send r.kind && words.comes r) ≡ true → is_fifo q.settings.kind ≡ true → (m : Message) → numbered q.arrivals p.records ≡ Some m → All (λ a. IsSoundRole a.role) s.actors → (x : Given) → GivesAs s r.agent r.key.at x → m.group ≡ x.group
   pub next : words.received r ≡ true → is_fifo q.settings.kind ≡ true → (n : ℕ) (one : Message) → r.message ≡ Some (id_of q n) → numbered n q.records ≡ Some one → IsNext past q r n one
-  pub repeats : words.is_repeat r.answer ≡ true → RepeatsEntry q r
+  pub repeats : words.is_repeat r.answer ≡ true → RepeatsEntry s q r
+  pub sends : (words.is_send r.kind && words.comes r) ≡ true → (a : ActorSettings) → slice_get s.actors (r.agent - length s.queues) ≡ Some a → IsSender a.role → (x : Given) × GivesAs s r.agent r.key.at x × (r.detail ≡ details.Digest (md5 x.body))
+  pub enters : (words.is_send r.kind && words.comes r) ≡ true → (e : Entry) → In p.entries e → e.number ≡ q.arrivals → HasKey s q r e
 
--- a row by which nothing is sent and nothing received has nothing to do with them
-pub of_none : (s : Scenario) (past : List Row) (q : Queue) (r : Row) (p : Queue) → (words.is_send r.kind && words.comes r) ≡ false → words.received r ≡ false → words.is_repeat r.answer ≡ false → IsOfGroup s past q r p
-of_none s past q r p a b c = record { repeats = λ e. absurd (true≢false (sym e ∙ c)); given = λ e f m h k g i. absurd (true≢false (sym e ∙ a)); next = λ e f n one g h. absurd (true≢false (sym e ∙ b)) }
+-- of a row by which nothing is sent, received or repeated there is nothing to say
+pub of_none : (s : Scenario) (past : List Row) (q : Queue) (r : Row) (p : Queue) → (words.is_send r.kind && words.comes r) ≡ false → words.received r ≡ false → words.is_repeat r.answer ≡ false → IsBehind s past q r p
+of_none s past q r p a b c = record { sends = λ e. absurd (true≢false (sym e ∙ a)); enters = λ e. absurd (true≢false (sym e ∙ a)); repeats = λ e. absurd (true≢false (sym e ∙ c)); given = λ e f m h k x i. absurd (true≢false (sym e ∙ a)); next = λ e f n one g h. absurd (true≢false (sym e ∙ b)) }
 
-pub tells_none : (s : Scenario) (past : List Row) (q : Queue) (r : Row) (p : Queue) (x y z : Bool) → Tells r false false x y z → words.is_repeat r.answer ≡ false → IsOfGroup s past q r p
+pub tells_none : (s : Scenario) (past : List Row) (q : Queue) (r : Row) (p : Queue) (x y z : Bool) → Tells r false false x y z → words.is_repeat r.answer ≡ false → IsBehind s past q r p
 tells_none s past q r p x y z t n = of_none s past q r p (ap (λ b. words.is_send r.kind && b) t.comes_so ∙ and-false (words.is_send r.kind)) t.received_so n
 
 -- rows one after another, behind the rows of the run so far
 abbrev pub Chain : Scenario → List Row → Key → Queue → List Row → Queue → Type 0
 Chain s past key q [] p = q ≡ p
-Chain s past key q (r ∷ rs) p = (x : Queue) × Move key q r x × IsOfGroup s past q r x × Chain s (past ++ r ∷ []) key x rs p
+Chain s past key q (r ∷ rs) p = (x : Queue) × Move key q r x × IsBehind s past q r x × Chain s (past ++ r ∷ []) key x rs p
 
 -- the messages of a queue are in the order of their numbers, and these and those of its entries were all given out
 pub record IsStocked (q : Queue) : Type 0 where
@@ -306,7 +315,7 @@ chain_append s past key [] ss q x p c d = subst (λ y. Chain s past key y ss p) 
 chain_append s past key (r ∷ rs) ss q x p (y, m, g, c) d =
     (y, m, g, chain_append s (past ++ r ∷ []) key rs ss y x p c (subst (λ b. Chain s b key x ss p) (sym (append_assoc past (r ∷ []) rs)) d))
 
-pub one_move : (s : Scenario) (past : List Row) (key : Key) (q : Queue) (r : Row) (p : Queue) → Move key q r p → IsOfGroup s past q r p → Chain s past key q (r ∷ []) p
+pub one_move : (s : Scenario) (past : List Row) (key : Key) (q : Queue) (r : Row) (p : Queue) → Move key q r p → IsBehind s past q r p → Chain s past key q (r ∷ []) p
 one_move s past key q r p m g = (p, m, g, refl)
 
 -- a row names a message of its own queue alone

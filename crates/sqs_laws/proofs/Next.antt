@@ -15,7 +15,7 @@ use Rattle.sqs_model.proofs.Chosen.{Stand}
 use Rattle.sqs_model.proofs.Counts.{find_picked}
 use Rattle.sqs_model.proofs.Members.{In}
 use Rattle.sqs_model.proofs.Numbered.{Apart}
-use Rattle.sqs_laws.specs.Groups.{IsByCall}
+use Rattle.sqs_laws.specs.Sends.{IsByCall}
 use Rattle.sqs_laws.specs.Laws.{is_fifo}
 use Rattle.sqs_laws.specs.Words.{flight}
 use Rattle.sqs_laws.proofs.Calls.{AreNext, AreToldOf, other_changed, own_changed, received_stand}

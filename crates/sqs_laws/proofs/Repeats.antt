@@ -7,15 +7,19 @@ use Rattle.sim_clock.specs.declared.key.Key.{Key}
 use Rattle.sqs_message.specs.declared.ids.MessageId.{MessageId}
 use Rattle.sqs_message.specs.declared.message.Message.{Message}
 use Rattle.sqs_message.specs.declared.row.Row.{Row}
+use Rattle.sqs_redrive.specs.declared.settings.QueueSettings.{QueueSettings}
 use Rattle.sqs_model.specs.Longest.{deduplication_interval}
 use Rattle.sqs_model.specs.Queue.{Entry, Queue, id_of, with_records}
 use Rattle.sqs_model.specs.Run.{IsRunOf, Run}
 use Rattle.sqs_model.specs.Scenario.{Scenario}
 use Rattle.sqs_model.proofs.Members.{In, of_all}
+use Rattle.std.proofs.lemmas.Bool.{and_parts}
+use Rattle.sqs_model.specs.Progress.{IsSoundScenario}
+use Rattle.sqs_laws.specs.Sends.{key_given}
 use Rattle.sqs_laws.specs.Laws.{Repeats, RepeatsRecent, fifo_at, is_fifo}
-use Rattle.sqs_laws.specs.Words.{EachRow, came_by, names}
+use Rattle.sqs_laws.specs.Words.{EachRow, came_by, is_send, names}
 use Rattle.sqs_laws.specs.Words as words
-use Rattle.sqs_laws.proofs.Moves.{Comes, Does, IsEntered, IsOfGroup, IsStocked, Move, RepeatsEntry, changes, comes, ends, receives, redrives, releases, stays}
+use Rattle.sqs_laws.proofs.Moves.{Comes, Does, HasKey, IsEntered, IsBehind, IsStocked, Move, RepeatsEntry, changes, comes, ends, receives, redrives, releases, stays}
 use Rattle.sqs_laws.proofs.Said.{names_apart, names_other, names_same}
 use Rattle.sqs_laws.proofs.Worlds.{NamesOwn, RowLaw, every_row_by}
 
@@ -26,43 +30,45 @@ came_as m rows r b e =
     ∙ ap (λ c. if c then Some r else came_by m rows) e
 
 -- the row of an entry: that by which its message came, 5 minutes before its end
-record Entered (rows : List Row) (q : Queue) (e : Entry) : Type 0 where
+record Entered (s : Scenario) (rows : List Row) (q : Queue) (e : Entry) : Type 0 where
   pub by : Row
   pub came : came_by (id_of q e.number) rows ≡ Some by
   pub ends : by.key.at + deduplication_interval ≡ e.end
+  pub same : is_send by.kind ≡ true → HasKey s q by e
 
 -- what the rows so far say of a queue: how each of its entries was made
 record Says (s : Scenario) (rows : List Row) (q : Queue) : Type 0 where
   pub settings : slice_get s.queues q.site ≡ Some q.settings
-  pub entered : (e : Entry) → In q.entries e → Entered rows q e
+  pub entered : (e : Entry) → In q.entries e → Entered s rows q e
 
-module _ (s : Scenario) (key : Key) (rows : List Row) (q : Queue) (r : Row) (p : Queue) (k : IsStocked q) (at_key : r.key ≡ key) (h : Says s rows q) where
-  other : (e : Entry) → (words.comes r && names (id_of q e.number) r) ≡ false → Entered rows q e → Entered (rows ++ r ∷ []) q e
-  other e n x = record { by = x.by; came = came_as (id_of q e.number) rows r false n ∙ x.came; ends = x.ends }
+module _ (s : Scenario) (key : Key) (rows : List Row) (q : Queue) (r : Row) (p : Queue) (k : IsStocked q) (at_key : r.key ≡ key) (o : IsBehind s rows q r p) (h : Says s rows q) where
+  other : (e : Entry) → (words.comes r && names (id_of q e.number) r) ≡ false → Entered s rows q e → Entered s (rows ++ r ∷ []) q e
+  other e n x = record { by = x.by; came = came_as (id_of q e.number) rows r false n ∙ x.came; ends = x.ends; same = x.same }
 
   still : words.comes r ≡ false → Says s (rows ++ r ∷ []) q
   still c = record { settings = h.settings; entered = λ e i. other e (rw c refl) (h.entered e i) }
 
   kept : (records : List Message) → words.comes r ≡ false → Says s (rows ++ r ∷ []) (with_records q records)
-  kept records c = record { settings = h.settings; entered = λ e i. let x : Entered (rows ++ r ∷ []) q e = (still c).entered e i in record { by = x.by; came = x.came; ends = x.ends } }
+  kept records c = record { settings = h.settings; entered = λ e i. let x : Entered s (rows ++ r ∷ []) q e = (still c).entered e i in record { by = x.by; came = x.came; ends = x.ends; same = x.same } }
 
-  entered_by : (d : Comes key q r p) (e : Entry) → IsEntered key q e → Entered (rows ++ r ∷ []) q e
-  entered_by d e (inl i) =
+  entered_by : (d : Comes key q r p) (e : Entry) → In p.entries e → IsEntered key q e → Entered s (rows ++ r ∷ []) q e
+  entered_by d e l (inl i) =
       let old : e.number < q.arrivals = of_all (λ (x : Entry). x.number < q.arrivals) q.entries e k.entries i in
       other e (ap (λ b. words.comes r && b) (names_other (id_of q e.number) (id_of q q.arrivals) r d.message (λ y. absurd (omega (arith, old, y)))) ∙ and-false (words.comes r)) (h.entered e i)
-  entered_by d e (inr i) =
+  entered_by d e l (inr i) =
       let named : r.message ≡ Some (id_of q e.number) = d.message ∙ ap (λ n. Some (id_of q n)) (sym i.0) in
       record {
         by = r;
         came = came_as (id_of q e.number) rows r true (rw (d.tells.comes_so, names_same (id_of q e.number) r named) refl);
         ends = ap (λ (x : Key). x.at + deduplication_interval) at_key ∙ sym i.1;
+        same = λ t. o.enters (rw (t, d.tells.comes_so) refl) e l i.0;
       }
 
   does_enter : Does key q r p → Says s (rows ++ r ∷ []) p
   does_enter (stays d) = subst (Says s (rows ++ r ∷ [])) d.same (still d.tells.comes_so)
   does_enter (comes d) =
       subst (Says s (rows ++ r ∷ [])) d.after
-      (record { settings = h.settings; entered = λ e i. let x : Entered (rows ++ r ∷ []) q e = entered_by d e (of_all (IsEntered key q) d.entries e d.entered i) in record { by = x.by; came = x.came; ends = x.ends } })
+      (record { settings = h.settings; entered = λ e i. let x : Entered s (rows ++ r ∷ []) q e = entered_by d e (subst (λ (y : Queue). In y.entries e) d.after i) (of_all (IsEntered key q) d.entries e d.entered i) in record { by = x.by; came = x.came; ends = x.ends; same = x.same } })
   does_enter (receives d) = subst (Says s (rows ++ r ∷ [])) d.after (kept _ d.tells.comes_so)
   does_enter (changes d) = subst (Says s (rows ++ r ∷ [])) d.after (kept _ d.tells.comes_so)
   does_enter (releases d) = subst (Says s (rows ++ r ∷ [])) d.after (kept _ d.tells.comes_so)
@@ -74,8 +80,8 @@ apart s rows r q d own h =
     record {
       settings = h.settings;
       entered = λ e i.
-          let x : Entered rows q e = h.entered e i in
-          record { by = x.by; came = came_as (id_of q e.number) rows r false (ap (λ b. words.comes r && b) (names_apart (id_of q e.number) r own d) ∙ and-false (words.comes r)) ∙ x.came; ends = x.ends };
+          let x : Entered s rows q e = h.entered e i in
+          record { by = x.by; came = came_as (id_of q e.number) rows r false (ap (λ b. words.comes r && b) (names_apart (id_of q e.number) r own d) ∙ and-false (words.comes r)) ∙ x.came; ends = x.ends; same = x.same };
     }
 
 -- the law that each entry of a queue was made by a row
@@ -84,7 +90,7 @@ entries s =
     record {
       Holds = Says s;
       Meets = λ rows r. Unit {0};
-      moves = λ rows key q r p by m g k h. (tt, does_enter s key rows q r p k m.at_key h m.does);
+      moves = λ rows key q r p by m g k h. (tt, does_enter s key rows q r p k m.at_key g h m.does);
       apart = apart s;
       opens = λ n settings e. record { settings = e; entered = λ x i. absurd i };
     }
@@ -92,22 +98,33 @@ entries s =
 -- what it says of a row
 record IsAsTold (s : Scenario) (before : List Row) (r : Row) : Type 0 where
   pub fifo : words.is_repeat r.answer ≡ true → fifo_at s r ≡ true
-  pub recent : words.is_repeat r.answer ≡ true → RepeatsRecent before r
+  pub recent : words.is_repeat r.answer ≡ true → RepeatsRecent s before r
 
-told : (s : Scenario) (rows : List Row) (key : Key) (q : Queue) (r : Row) (p : Queue) → Move key q r p → IsOfGroup s rows q r p → Says s rows q → IsAsTold s rows r
-told s rows key q r p d g h =
+told : (s : Scenario) → IsSoundScenario s → (rows : List Row) (key : Key) (q : Queue) (r : Row) (p : Queue) → Move key q r p → IsBehind s rows q r p → Says s rows q → IsAsTold s rows r
+told s sound rows key q r p d g h =
     record {
       fifo = λ t.
           let own : slice_get s.queues r.queue ≡ Some q.settings = ap (λ n. slice_get s.queues n) d.at_site ∙ h.settings in
           ap (λ x. elim x as (λ _. Bool) [ None ↦ false | Some y ↦ is_fifo y.kind ]) own ∙ (g.repeats t).fifo;
       recent = λ t.
-          let x : RepeatsEntry q r = g.repeats t in
-          let e : Entered rows q x.entry = h.entered x.entry x.there in
-          record { message = id_of q x.entry.number; by = e.by; names = x.names; came = e.came; recent = omega (arith, x.lives, e.ends) };
+          let x : RepeatsEntry s q r = g.repeats t in
+          let e : Entered s rows q x.entry = h.entered x.entry x.there in
+          record {
+            message = id_of q x.entry.number;
+            by = e.by;
+            names = x.names;
+            came = e.came;
+            recent = omega (arith, x.lives, e.ends);
+            same = λ y f u a b v w.
+                let own : slice_get s.queues r.queue ≡ Some q.settings = ap (λ n. slice_get s.queues n) d.at_site ∙ h.settings in
+                let is : q.settings ≡ y = cc in
+                let both = and_parts (is_send r.kind) (is_send e.by.kind) u in
+                ap (λ (z : QueueSettings). key_given z.kind a) (sym is) ∙ x.same both.0 sound.actors a v ∙ sym (e.same both.1 sound.actors b w) ∙ ap (λ (z : QueueSettings). key_given z.kind b) is;
+          };
     }
 
 -- the law
-pub repeats_are_recent : (s : Scenario) (x : Run) → IsRunOf s x → Repeats s x.rows
-repeats_are_recent s x is =
-    let each : EachRow x.rows (IsAsTold s) = every_row_by s (entries s) (IsAsTold s) (λ rows key q r p d g k h j. told s rows key q r p d g h) x is in
+pub repeats_are_recent : (s : Scenario) → IsSoundScenario s → (x : Run) → IsRunOf s x → Repeats s x.rows
+repeats_are_recent s sound x is =
+    let each : EachRow x.rows (IsAsTold s) = every_row_by s (entries s) (IsAsTold s) (λ rows key q r p d g k h j. told s sound rows key q r p d g h) x is in
     record { fifo = λ before r after e t. (each before r after e).fifo t; recent = λ before r after e t. (each before r after e).recent t }

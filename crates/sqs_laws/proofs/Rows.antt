@@ -1,6 +1,6 @@
 -- The rows of each other call, and of what is due, are a chain of single moves.
 use Rattle.std.specs.Str.{bytes_eq}
-use Rattle.std.specs.Prelude.{All, Bool, Err, List, None, Ok, Option, Result, Some, [], false, get_or, if◌then◌else◌, length, nat_lt, take, true, ℕ, ◌&&◌, ◌*◌, ◌+◌, ◌++◌, ◌<◌, ◌==◌, ◌∷◌, ◌≡◌, ◌≢◌, ◌||◌, ◌-◌, ◌≤◌}
+use Rattle.std.specs.Prelude.{All, Bool, slice_get, Err, List, None, Ok, Option, Result, Some, [], false, get_or, if◌then◌else◌, length, nat_lt, take, true, ℕ, ◌&&◌, ◌*◌, ◌+◌, ◌++◌, ◌<◌, ◌==◌, ◌∷◌, ◌≡◌, ◌≢◌, ◌||◌, ◌-◌, ◌≤◌}
 use Rattle.std.proofs.Common.{ap, arith, inl, inr, refl, subst, sym, true≢false, ◌∙◌}
 use Rattle.std.proofs.lemmas.Bool.{and_parts, leb-true}
 use Rattle.std.proofs.lemmas.Bool.Decides.{nat_tests}
@@ -37,7 +37,13 @@ use Rattle.sqs_model.specs.Actor.{Actor}
 use Rattle.sqs_model.specs.Calls.{change, deduplication_id, delay_of, delete, in_flight_until, is_bad_delay, living, living_entries, new_message, returned, scope_of, send_unless, send_with, with_entry, with_message}
 use Rattle.sqs_model.specs.Queue.{Entry, Queue, has_number, id_of, is_in_flight, is_visible, numbered, same_text, taken_out, with_change, with_records}
 use Rattle.sqs_model.specs.Return.{leaves, redrive_of, released, released_found, released_when, visible_again}
+use Rattle.std.specs.Cmp.Lexicographic.{bytes_decides}
+use Rattle.sqs_redrive.specs.declared.settings.Scope.TheVariants as scopes
+use Rattle.md5.specs.Md5.{md5}
+use Rattle.sqs_model.specs.declared.agents.ActorSettings.{ActorSettings}
+use Rattle.sqs_model.specs.Progress.{IsSoundRole}
 use Rattle.sqs_model.specs.Scenario.{Scenario}
+use Rattle.sqs_model.specs.Texts.{same_text_decides}
 use Rattle.sqs_model.specs.Site.{Core, Effect, and_then, number_of, says, with_queue}
 use Rattle.sqs_model.specs.Arrive.{arrived, brought, enqueued_at, expired_found, forwarded, forwarded_group, is_too_old, sent_of, settled_when}
 use Rattle.sqs_model.specs.Step.{Moved, arrival_done, end_row, load_age, load_origin, handle_step, moves, one_sent, expiry_done, handle_expiry, release_done}
@@ -53,15 +59,16 @@ use Rattle.sqs_model.proofs.Answered.{change_by, delete_by}
 use Rattle.sqs_model.proofs.Branches.{either}
 use Rattle.sqs_model.proofs.CallWalk.{IsNameless, TellsOfNone}
 use Rattle.sqs_model.proofs.Counts.{changed_twice, find_all, find_picked, without_changed}
-use Rattle.sqs_model.proofs.Members.{all_in}
+use Rattle.sqs_model.proofs.Members.{In, all_in, in_append, of_all}
 use Rattle.sqs_model.proofs.SiteAccounts.{IsFound}
+use Rattle.sqs_laws.specs.Sends.{Given, GivesAs, IsSender, key_given, scope_given}
 use Rattle.sqs_laws.specs.Laws.{is_fifo}
 use Rattle.sqs_laws.specs.Words as words
 use Rattle.sqs_laws.proofs.Calls.{Told, back_told, found_old, one_back, own_changed, pushed_found, pushed_out, tells}
 use Rattle.sqs_laws.proofs.Gives.{Gives}
 use Rattle.sqs_laws.proofs.Giving.{visible_available}
 use Rattle.sqs_laws.proofs.Naming.{found_in}
-use Rattle.sqs_laws.proofs.Moves.{Asks, AsksChange, AsksDelete, Chain, IsEntered, IsNoReceipt, IsOfGroup, RepeatsEntry, changed_answer, deleted_answer, chain_keeps, Does, IsStocked, Keeps, Move, Stays, Tells, changes, chain_append, comes, ends, of_none, one_move, stays, tells_none}
+use Rattle.sqs_laws.proofs.Moves.{HasKey, Asks, AsksChange, AsksDelete, Chain, IsEntered, IsNoReceipt, IsBehind, RepeatsEntry, changed_answer, deleted_answer, chain_keeps, Does, IsStocked, Keeps, Move, Stays, Tells, changes, chain_append, comes, ends, of_none, one_move, stays, tells_none}
 
 -- what a row of none tells
 abbrev SaysNothing : RowKind → RowAnswer → Type 0
@@ -106,7 +113,7 @@ quiet_move key c q r e i =
       does = stays (nameless_stays key q r i.nameless (let n : SaysNothing r.kind r.answer = says_nothing r.kind r.answer i.kind in tells r false false false false false n.0 n.1 n.2 n.3 n.4));
     }
 
-pub nameless_none : (u : Scenario) (past : List Row) {key : Key} {c : Core} (q : Queue) (r : Row) → IsNameless key c r → IsOfGroup u past q r q
+pub nameless_none : (u : Scenario) (past : List Row) {key : Key} {c : Core} (q : Queue) (r : Row) → IsNameless key c r → IsBehind u past q r q
 nameless_none u past q r i =
     let n : SaysNothing r.kind r.answer = says_nothing r.kind r.answer i.kind in tells_none u past q r q false false false (tells r false false false false false n.0 n.1 n.2 n.3 n.4) n.5
 
@@ -127,7 +134,7 @@ module _ (u : Scenario) (past : List Row) (key : Key) where
         gone = λ h i e. let s : id_of q n ≡ i = cc in subst (λ (x : MessageId). numbered x.number q.records ≡ None) s (g h);
       }
 
-  one_row : (c d : Core) (r : Row) → r.key ≡ key → r.queue ≡ c.queue.site → d.actors ≡ c.actors → Asks key c.queue r r.kind → Does key c.queue r d.queue → IsOfGroup u past c.queue r d.queue → IsChain c (says d r)
+  one_row : (c d : Core) (r : Row) → r.key ≡ key → r.queue ≡ c.queue.site → d.actors ≡ c.actors → Asks key c.queue r r.kind → Does key c.queue r d.queue → IsBehind u past c.queue r d.queue → IsChain c (says d r)
   one_row c d r k s a y h g = record { chain = one_move u past key c.queue r d.queue (record { at_key = k; at_site = s; asked = y; does = h }) g; actors = a }
 
   -- services
@@ -160,13 +167,25 @@ module _ (u : Scenario) (past : List Row) (key : Key) where
 
   -- a message that has the group which an actor gives, if its queue is a FIFO one
   abbrev HasGroup : Actor → Core → Message → Type 0
-  HasGroup a c m = is_fifo c.queue.settings.kind ≡ true → Gives u key.at a m.group
+  HasGroup a c m = is_fifo c.queue.settings.kind ≡ true → All (λ x. IsSoundRole x.role) u.actors → (x : Given) → GivesAs u a.number key.at x → m.group ≡ x.group
+
+  -- what an actor gives has this scope and this deduplication id
+  abbrev GivesKey : Actor → Core → Option (List ℕ) → List ℕ → Type 0
+  GivesKey a c scope id = All (λ x. IsSoundRole x.role) u.actors → (x : Given) → GivesAs u a.number key.at x → key_given c.queue.settings.kind x ≡ (scope, Some id)
+
+  -- what an actor gives has this body
+  abbrev GivesBody : Actor → List ℕ → Type 0
+  GivesBody a body = (b : ActorSettings) → slice_get u.actors (a.number - length u.queues) ≡ Some b → IsSender b.role → (x : Given) × GivesAs u a.number key.at x × (x.body ≡ body)
+
+  -- an entry of the message that comes has them
+  abbrev EntersKey : Actor → Core → List Entry → Type 0
+  EntersKey a c entries = (e : Entry) → In entries e → e.number ≡ c.queue.arrivals → GivesKey a c e.scope e.id
 
   refused_sent : (a : Actor) (c : Core) (body : List ℕ) (e : Refusal) → IsSent a c body (Err e, c.queue)
   refused_sent a c body e = one_row c c _ refl refl refl tt (stays (nameless_stays key c.queue _ refl (tells _ false false false false false refl refl refl refl refl))) (of_none u past c.queue _ _ refl refl refl)
 
-  new_sent : (a : Actor) (c : Core) (body : List ℕ) (m : Message) (entries : List Entry) → IsStocked c.queue → HasGroup a c m → m.number ≡ c.queue.arrivals → m.receives ≡ 0 → is_in_flight m ≡ false → record { site = c.queue.site; number = c.queue.arrivals } ≡ m.origin → (m.enqueued ≡ key.at) × (m.source ≡ None) → All (IsEntered key c.queue) entries → IsSent a c body (Ok (New (id_of c.queue c.queue.arrivals)), with_message (record c.queue { entries = entries }) m)
-  new_sent a c body m entries k x n f r g d o =
+  new_sent : (a : Actor) (c : Core) (body : List ℕ) (m : Message) (entries : List Entry) → IsStocked c.queue → HasGroup a c m → EntersKey a c entries → GivesBody a body → m.number ≡ c.queue.arrivals → m.receives ≡ 0 → is_in_flight m ≡ false → record { site = c.queue.site; number = c.queue.arrivals } ≡ m.origin → (m.enqueued ≡ key.at) × (m.source ≡ None) → All (IsEntered key c.queue) entries → IsSent a c body (Ok (New (id_of c.queue c.queue.arrivals)), with_message (record c.queue { entries = entries }) m)
+  new_sent a c body m entries k x w v n f r g d o =
       one_row c (with_queue c (with_message (record c.queue { entries = entries }) m)) _ refl refl refl tt
       (comes (record { one = m; entries = entries; tells = tells _ true false false false false refl refl refl refl refl; message = refl; number = n; fresh = f; rests = r; told = ap (λ x. Some x) g; sent = λ _. d; entered = o; after = refl }))
       (record {
@@ -175,24 +194,29 @@ module _ (u : Scenario) (past : List Row) (key : Key) where
             ap (λ (z : Message). z.group) (sym is) ∙ x y s g h;
         next = λ e. cc;
         repeats = λ e. cc;
+        enters = λ e. w;
+        sends = λ e b f i. let y = v b f i in (y.0, y.1, ap (λ z. details.Digest (md5 z)) (sym y.2));
       })
 
   -- a row that repeats a message by an entry that lives
-  repeats_by : (q : Queue) (r : Row) (scope : Option (List ℕ)) (id : List ℕ) (e : Entry) → is_fifo q.settings.kind ≡ true → living q key.at scope id ≡ Some e → r.key ≡ key → r.message ≡ Some (id_of q e.number) → RepeatsEntry q r
-  repeats_by q r scope id e y f k m =
+  repeats_by : (q : Queue) (r : Row) (scope : Option (List ℕ)) (id : List ℕ) (e : Entry) → is_fifo q.settings.kind ≡ true → living q key.at scope id ≡ Some e → r.key ≡ key → r.message ≡ Some (id_of q e.number) → (words.is_send r.kind ≡ true → (e.scope ≡ scope) × (e.id ≡ id) → HasKey u q r e) → RepeatsEntry u q r
+  repeats_by q r scope id e y f k m w =
       let test : Entry → Bool = λ x. nat_lt key.at x.end && same_text x.scope scope && bytes_eq x.id id in
       let picked : test e ≡ true = find_picked test q.entries e f in
       let lives : nat_lt key.at e.end ≡ true = (and_parts (nat_lt key.at e.end) (same_text e.scope scope) (and_parts (nat_lt key.at e.end && same_text e.scope scope) (bytes_eq e.id id) picked).0).0 in
+      let parts = and_parts (nat_lt key.at e.end && same_text e.scope scope) (bytes_eq e.id id) picked in
+      let scoped : e.scope ≡ scope = (same_text_decides e.scope scope).0 (and_parts (nat_lt key.at e.end) (same_text e.scope scope) parts.0).1 in
+      let named : e.id ≡ id = (bytes_decides e.id id).0 parts.1 in
       let now : r.key.at ≡ key.at = ap (λ (x : Key). x.at) k in
-      record { fifo = y; entry = e; there = found_in test q.entries e f; names = m; lives = let l : key.at < e.end = grind (arith, nat_tests, lives) in omega (arith, l, now) }
+      record { same = λ t. w t (scoped, named); fifo = y; entry = e; there = found_in test q.entries e f; names = m; lives = let l : key.at < e.end = grind (arith, nat_tests, lives) in omega (arith, l, now) }
 
   named_by : (c : Core) (scope : Option (List ℕ)) (id : List ℕ) (e : Entry) → IsStocked c.queue → living c.queue key.at scope id ≡ Some e → e.number < c.queue.arrivals
   named_by c scope id e s f = find_all (λ (x : Entry). nat_lt key.at x.end && same_text x.scope scope && bytes_eq x.id id) (λ x. x.number < c.queue.arrivals) c.queue.entries e s.entries f
 
-  repeat_sent : (a : Actor) (c : Core) (body : List ℕ) (scope : Option (List ℕ)) (id : List ℕ) (e : Entry) → is_fifo c.queue.settings.kind ≡ true → IsStocked c.queue → living c.queue key.at scope id ≡ Some e → IsSent a c body (Ok (Repeat (id_of c.queue e.number)), c.queue)
-  repeat_sent a c body scope id e y s f =
+  repeat_sent : (a : Actor) (c : Core) (body : List ℕ) (scope : Option (List ℕ)) (id : List ℕ) (e : Entry) → GivesKey a c scope id → is_fifo c.queue.settings.kind ≡ true → IsStocked c.queue → living c.queue key.at scope id ≡ Some e → IsSent a c body (Ok (Repeat (id_of c.queue e.number)), c.queue)
+  repeat_sent a c body scope id e w y s f =
       one_row c c _ refl refl refl tt (stays (named_stays c.queue _ e.number refl (tells _ false false false false false refl refl refl refl refl) (named_by c scope id e s f) (λ h. cc) (λ h. cc)))
-      (record { given = λ t. cc; next = λ t. cc; repeats = λ t. repeats_by c.queue _ scope id e y f refl refl })
+      (record { given = λ t. cc; next = λ t. cc; sends = λ t. cc; enters = λ t. cc; repeats = λ t. repeats_by c.queue _ scope id e y f refl refl (λ _ i s x g. w s x g ∙ ap (λ z. (z, Some id)) (sym i.0) ∙ ap (λ z. (e.scope, Some z)) (sym i.1)) })
 
   -- a message that is not in flight as it comes
   rests_at : (q : Queue) (body : List ℕ) (group : Option (List ℕ)) (delay : ℕ) → is_in_flight (new_message q key.at body group delay) ≡ false
@@ -206,22 +230,40 @@ module _ (u : Scenario) (past : List Row) (key : Key) where
       All-push (IsEntered key q) (living_entries key.at q.entries) _
       (All-filter (λ e. nat_lt key.at e.end) (IsEntered key q) q.entries (old_entries q)) (inr (refl, refl))
 
-  unless_sent : (a : Actor) (c : Core) (body given group : List ℕ) (scope : Option (List ℕ)) (id : List ℕ) (o : Option Entry) → is_fifo c.queue.settings.kind ≡ true → Gives u key.at a (Some group) → living c.queue key.at scope id ≡ o → IsStocked c.queue → IsSent a c given (send_unless c.queue key.at body group scope id o)
-  unless_sent a c body given group scope id None y x f s =
-      new_sent a c given (new_message c.queue key.at body (Some group) c.queue.settings.delay) (with_entry c.queue key.at scope id).entries s (λ z. x) refl refl (rests_at c.queue body (Some group) c.queue.settings.delay) refl (refl, refl) (more_entries c.queue scope id)
-  unless_sent a c body given group scope id (Some e) y x f s = repeat_sent a c given scope id e y s f
+  -- the entries with the new one
+  enters_more : (a : Actor) (c : Core) (scope : Option (List ℕ)) (id : List ℕ) → IsStocked c.queue → GivesKey a c scope id → EntersKey a c (with_entry c.queue key.at scope id).entries
+  enters_more a c scope id k w e i n =
+      elim (in_append (living_entries key.at c.queue.entries) _ e i) as (λ _. GivesKey a c e.scope e.id) [
+        | inl j ↦
+            let old : e.number < c.queue.arrivals = of_all (λ (x : Entry). x.number < c.queue.arrivals) (living_entries key.at c.queue.entries) e (All-filter (λ x. nat_lt key.at x.end) (λ (x : Entry). x.number < c.queue.arrivals) c.queue.entries k.entries) j in
+            absurd (omega (arith, old, n))
+        | inr j ↦ elim j as (λ _. GivesKey a c e.scope e.id) [ inl is ↦ subst (λ (y : Entry). GivesKey a c y.scope y.id) is w | inr none ↦ absurd none ]
+      ]
 
-  with_sent : (a : Actor) (c : Core) (scope : Scope) (body : List ℕ) (group id : Option (List ℕ)) → is_fifo c.queue.settings.kind ≡ true → Gives u key.at a group → IsStocked c.queue → IsSent a c body (send_with c.queue scope key.at body group id)
-  with_sent a c scope body None id y x s = refused_sent a c body refusals.MissingGroup
-  with_sent a c scope body (Some g) None y x s = refused_sent a c body refusals.MissingDeduplication
-  with_sent a c scope body (Some g) (Some i) y x s = unless_sent a c body body g (scope_of scope g) i (living c.queue key.at (scope_of scope g) i) y x refl s
+  unless_sent : (a : Actor) (c : Core) (body given group : List ℕ) (scope : Option (List ℕ)) (id : List ℕ) (o : Option Entry) → GivesBody a given → GivesKey a c scope id → is_fifo c.queue.settings.kind ≡ true → HasGroup a c (new_message c.queue key.at body (Some group) c.queue.settings.delay) → living c.queue key.at scope id ≡ o → IsStocked c.queue → IsSent a c given (send_unless c.queue key.at body group scope id o)
+  unless_sent a c body given group scope id None v w y x f s =
+      new_sent a c given (new_message c.queue key.at body (Some group) c.queue.settings.delay) (with_entry c.queue key.at scope id).entries s x (enters_more a c scope id s w) v refl refl (rests_at c.queue body (Some group) c.queue.settings.delay) refl (refl, refl) (more_entries c.queue scope id)
+  unless_sent a c body given group scope id (Some e) v w y x f s = repeat_sent a c given scope id e w y s f
 
-  pub sends_chain : (k : Kind) (a : Actor) (c : Core) (body : List ℕ) (delay : Option ℕ) (group id : Option (List ℕ)) → c.queue.settings.kind ≡ k → Gives u key.at a group → IsStocked c.queue → IsSent a c body (sends k c.queue key.at body delay group id)
+  scope_alike : (scope : Scope) (g : List ℕ) → scope_given scope (Some g) ≡ scope_of scope g
+  scope_alike scopes.Queue g = refl
+  scope_alike scopes.Group g = refl
+
+  with_sent : (a : Actor) (c : Core) (scope : Scope) (body : List ℕ) (group id : Option (List ℕ)) → GivesBody a body → ((g i : List ℕ) → group ≡ Some g → id ≡ Some i → GivesKey a c (scope_of scope g) i) → is_fifo c.queue.settings.kind ≡ true → HasGroup a c (new_message c.queue key.at body group c.queue.settings.delay) → IsStocked c.queue → IsSent a c body (send_with c.queue scope key.at body group id)
+  with_sent a c scope body None id v w y x s = refused_sent a c body refusals.MissingGroup
+  with_sent a c scope body (Some g) None v w y x s = refused_sent a c body refusals.MissingDeduplication
+  with_sent a c scope body (Some g) (Some i) v w y x s = unless_sent a c body body g (scope_of scope g) i (living c.queue key.at (scope_of scope g) i) v (w g i refl refl) y x refl s
+
+  pub sends_chain : (k : Kind) (a : Actor) (c : Core) (body : List ℕ) (delay : Option ℕ) (group id : Option (List ℕ)) → c.queue.settings.kind ≡ k → Gives u key.at a.number (record { body = body; group = group; id = id }) → IsStocked c.queue → IsSent a c body (sends k c.queue key.at body delay group id)
   sends_chain (Standard hosts sampled) a c body delay group id y x s =
       either (IsSent a c body) (is_bad_delay 900 delay) _ _ (refused_sent a c body refusals.BadDelay)
-      (new_sent a c body (new_message c.queue key.at body None (delay_of c.queue delay)) c.queue.entries s (λ z. absurd (true≢false (sym z ∙ ap is_fifo y))) refl refl (rests_at c.queue body None (delay_of c.queue delay)) refl (refl, refl) (old_entries c.queue))
+      (new_sent a c body (new_message c.queue key.at body None (delay_of c.queue delay)) c.queue.entries s (λ z. absurd (true≢false (sym z ∙ ap is_fifo y))) (λ e i n. let old : e.number < c.queue.arrivals = of_all (λ (z : Entry). z.number < c.queue.arrivals) c.queue.entries e s.entries i in absurd (omega (arith, old, n))) (λ b f i. (record { body = body; group = group; id = id }, x.0 b f i, refl)) refl refl (rests_at c.queue body None (delay_of c.queue delay)) refl (refl, refl) (old_entries c.queue))
   sends_chain (Fifo content scope) a c body delay group id y x s =
-      either (IsSent a c body) (is_bad_delay 0 delay) _ _ (refused_sent a c body refusals.BadDelay) (with_sent a c scope body group (deduplication_id content body id) (ap is_fifo y) x s)
+      either (IsSent a c body) (is_bad_delay 0 delay) _ _ (refused_sent a c body refusals.BadDelay) (with_sent a c scope body group (deduplication_id content body id) (λ b f i. (record { body = body; group = group; id = id }, x.0 b f i, refl))
+      (λ g i e f v z t.
+      let given : Given = record { body = body; group = group; id = id } in
+      ap (key_given c.queue.settings.kind) (sym (x.1 v z t)) ∙ ap (λ j. key_given j given) y ∙ ap (λ j. (scope_given scope j, deduplication_id content body id)) e ∙ ap (λ j. (scope_given scope (Some g), j)) f ∙ ap (λ j. (j, Some i)) (scope_alike scope g))
+      (ap is_fifo y) (λ _ v z t. ap (λ (j : Given). j.group) (x.1 v z t)) s)
 
   -- deletes
   refused_row : (c : Core) (r : Row) → r.key ≡ key → r.queue ≡ c.queue.site → r.message ≡ None → Asks key c.queue r r.kind → Tells r false false false false false → words.is_repeat r.answer ≡ false → IsChain c (says c r)
@@ -413,7 +455,7 @@ module _ (u : Scenario) (past : List Row) (key : Key) where
       new_come c id g b (new_message c.queue key.at body (Some group) c.queue.settings.delay) (with_entry c.queue key.at scope text).entries refl refl (rests_at c.queue body (Some group) c.queue.settings.delay) refl (more_entries c.queue scope text)
   unless_come c id g b body group scope text (Some e) y f s =
       record {
-        chain = one_move u past key c.queue _ _ (record { at_key = refl; at_site = refl; asked = tt; does = stays (named_stays c.queue _ e.number refl (tells _ false false false false false refl refl refl refl refl) (named_by c scope text e s f) (λ h. cc) (λ h. cc)) }) (record { given = λ t. cc; next = λ t. cc; repeats = λ t. repeats_by c.queue _ scope text e y f refl refl });
+        chain = one_move u past key c.queue _ _ (record { at_key = refl; at_site = refl; asked = tt; does = stays (named_stays c.queue _ e.number refl (tells _ false false false false false refl refl refl refl refl) (named_by c scope text e s f) (λ h. cc) (λ h. cc)) }) (record { given = λ t. cc; next = λ t. cc; sends = λ t. cc; enters = λ t. cc; repeats = λ t. repeats_by c.queue _ scope text e y f refl refl (λ t. cc) });
         actors = refl;
       }
 

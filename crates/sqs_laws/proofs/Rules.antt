@@ -7,7 +7,7 @@ use Rattle.sqs_model.specs.Valid.{IsQueueSettings}
 use Rattle.sqs_laws.specs.Laws.{KeepsTheRules}
 use Rattle.sqs_laws.proofs.Ages.{ages_are_told}
 use Rattle.sqs_laws.proofs.End.{ends_are_ends}
-use Rattle.sqs_laws.proofs.Fifo.{groups_are_in_order}
+use Rattle.sqs_laws.proofs.Fifo.{groups_are_in_order, sends_are_given}
 use Rattle.sqs_laws.proofs.InFlight.{flights_are_told}
 use Rattle.sqs_laws.proofs.Letters.{letters_are_dead}
 use Rattle.sqs_laws.proofs.Order.{rows_in_time}
@@ -24,7 +24,8 @@ keeps_the_rules s sound valid r is =
       receipts = receipts_are_known s valid r is;
       origins = origins_are_told s r is;
       ages = ages_are_told s r is;
+      sends = sends_are_given s r is;
       fifo = groups_are_in_order s sound r is;
-      repeats = repeats_are_recent s r is;
+      repeats = repeats_are_recent s sound r is;
       in_time = rows_in_time s sound r is;
     }

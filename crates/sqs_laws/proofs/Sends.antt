@@ -13,13 +13,13 @@ use Rattle.sqs_model.specs.Queue.{Queue, id_of, numbered, taken_out, with_change
 use Rattle.sqs_model.specs.Receive.{received}
 use Rattle.sqs_model.specs.Return.{visible_again}
 use Rattle.sqs_model.specs.Scenario.{Scenario}
-use Rattle.sqs_laws.specs.Groups.{GivesAs}
+use Rattle.sqs_laws.specs.Sends.{Given, GivesAs}
 use Rattle.sqs_laws.specs.Laws.{is_fifo}
 use Rattle.sqs_laws.specs.Words.{EachRow, is_send, names, sent_by}
 use Rattle.sqs_laws.specs.Words as words
 use Rattle.sqs_laws.proofs.Calls.{found_old, pushed_found}
 use Rattle.sqs_laws.proofs.Each.{each_changed, each_pushed, each_taken}
-use Rattle.sqs_laws.proofs.Moves.{Comes, Does, IsOfGroup, IsStocked, changes, comes, ends, receives, redrives, releases, stays}
+use Rattle.sqs_laws.proofs.Moves.{Comes, Does, IsBehind, IsStocked, changes, comes, ends, receives, redrives, releases, stays}
 use Rattle.sqs_laws.proofs.Said.{names_apart, names_other, names_same}
 use Rattle.sqs_laws.proofs.Worlds.{NamesOwn, RowLaw}
 
@@ -36,7 +36,7 @@ not_sent m rows r e = sent_as m rows r false (ap (λ b. (is_send r.kind && b) &&
 pub record WasSent (s : Scenario) (fifo : Bool) (m : Message) (by : Row) : Type 0 where
   pub enqueued : m.enqueued ≡ by.key.at
   pub source : m.source ≡ None
-  pub group : fifo ≡ true → All (λ a. IsSoundRole a.role) s.actors → (g : List ℕ) → GivesAs s by.agent by.key.at g → m.group ≡ Some g
+  pub group : fifo ≡ true → All (λ a. IsSoundRole a.role) s.actors → (x : Given) → GivesAs s by.agent by.key.at x → m.group ≡ x.group
 
 -- what the rows so far say of a queue: by which rows its messages were sent
 pub record Says (s : Scenario) (rows : List Row) (q : Queue) : Type 0 where
@@ -44,7 +44,7 @@ pub record Says (s : Scenario) (rows : List Row) (q : Queue) : Type 0 where
   pub told : (n : ℕ) (m : Message) → numbered n q.records ≡ Some m → (by : Row) → sent_by (id_of q n) rows ≡ Some by → WasSent s (is_fifo q.settings.kind) m by
   pub fresh : (n : ℕ) → q.arrivals ≤ n → sent_by (id_of q n) rows ≡ None
 
-module _ (s : Scenario) (key : Key) (rows : List Row) (q : Queue) (r : Row) (p : Queue) (k : IsStocked q) (at_key : r.key ≡ key) (o : IsOfGroup s rows q r p) (h : Says s rows q) where
+module _ (s : Scenario) (key : Key) (rows : List Row) (q : Queue) (r : Row) (p : Queue) (k : IsStocked q) (at_key : r.key ≡ key) (o : IsBehind s rows q r p) (h : Says s rows q) where
   abbrev IsTold : ℕ → Message → Type 0
   IsTold n m = (by : Row) → sent_by (id_of q n) (rows ++ r ∷ []) ≡ Some by → WasSent s (is_fifo q.settings.kind) m by
 
@@ -78,7 +78,7 @@ module _ (s : Scenario) (key : Key) (rows : List Row) (q : Queue) (r : Row) (p :
       record {
         enqueued = (d.sent e).0 ∙ sym (ap (λ (x : Key). x.at) at_key) ∙ ap (λ (x : Row). x.key.at) is;
         source = (d.sent e).1;
-        group = λ f u g y. o.given (rw (e, d.tells.comes_so) refl) f d.one there u g (subst (λ (x : Row). GivesAs s x.agent x.key.at g) (sym is) y);
+        group = λ f u z y. o.given (rw (e, d.tells.comes_so) refl) f d.one there u z (subst (λ (x : Row). GivesAs s x.agent x.key.at z) (sym is) y);
       }
   own_by d false e by x =
       let none : sent_by (id_of q q.arrivals) (rows ++ r ∷ []) ≡ None = sent_as (id_of q q.arrivals) rows r false (rw e refl) ∙ h.fresh q.arrivals (omega arith) in cc

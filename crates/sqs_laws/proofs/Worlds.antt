@@ -31,7 +31,7 @@ use Rattle.sqs_laws.proofs.Chains.{IsInOrder, IsMoved, handled_moves}
 use Rattle.sqs_laws.proofs.Gives.{AreOfScenario, Fits, due_awake, first_fits}
 use Rattle.sqs_laws.proofs.Holding.{IsInformed}
 use Rattle.sqs_laws.proofs.Numbers.{due_over}
-use Rattle.sqs_laws.proofs.Moves.{Chain, IsOfGroup, IsStocked, Keeps, Move, chain_keeps, does_keep, moves_own}
+use Rattle.sqs_laws.proofs.Moves.{Chain, IsBehind, IsStocked, Keeps, Move, chain_keeps, does_keep, moves_own}
 
 -- a row names no message of another queue
 abbrev pub NamesOwn : Row → Type 0
@@ -42,7 +42,7 @@ NamesOwn r = (m : MessageId) → r.message ≡ Some m → m.site ≡ r.queue
 pub record RowLaw (s : Scenario) : Type 1 where
   pub Holds : List Row → Queue → Type 0
   pub Meets : List Row → Row → Type 0
-  pub moves : (rows : List Row) (key : Key) (q : Queue) (r : Row) (p : Queue) → key.at ≤ s.horizon → Move key q r p → IsOfGroup s rows q r p → IsStocked q → Holds rows q → Meets rows r × Holds (rows ++ r ∷ []) p
+  pub moves : (rows : List Row) (key : Key) (q : Queue) (r : Row) (p : Queue) → key.at ≤ s.horizon → Move key q r p → IsBehind s rows q r p → IsStocked q → Holds rows q → Meets rows r × Holds (rows ++ r ∷ []) p
   pub apart : (rows : List Row) (r : Row) (q : Queue) → r.queue ≢ q.site → NamesOwn r → Holds rows q → Holds (rows ++ r ∷ []) q
   pub opens : (n : ℕ) (settings : QueueSettings) → slice_get s.queues n ≡ Some settings → Holds [] (record { site = n; settings = settings; records = []; entries = []; arrivals = 0 })
 
@@ -265,7 +265,7 @@ module _ (scenario : Scenario) (law : RowLaw scenario) where
 -- what a law says of each row, by its move
 pub every_row_by :
     (s : Scenario) (law : RowLaw s) (P : List Row → Row → Type 0)
-    → ((rows : List Row) (key : Key) (q : Queue) (r : Row) (p : Queue) → Move key q r p → IsOfGroup s rows q r p → IsStocked q → law.Holds rows q → law.Holds (rows ++ r ∷ []) p → P rows r)
+    → ((rows : List Row) (key : Key) (q : Queue) (r : Row) (p : Queue) → Move key q r p → IsBehind s rows q r p → IsStocked q → law.Holds rows q → law.Holds (rows ++ r ∷ []) p → P rows r)
     → (r : Run) → IsRunOf s r → EachRow r.rows P
 every_row_by s law P meets r is =
     every_row s

@@ -15,13 +15,15 @@ use Rattle.sqs_redrive.specs.declared.settings.Kind.{Kind}
 use Rattle.sqs_redrive.specs.declared.settings.Kind.TheVariants.{Fifo, Standard}
 use Rattle.sqs_redrive.specs.declared.settings.Policy.{Policy}
 use Rattle.sqs_redrive.specs.declared.settings.QueueSettings.{QueueSettings}
+use Rattle.md5.specs.Md5.{md5}
+use Rattle.sqs_model.specs.declared.agents.ActorSettings.{ActorSettings}
 use Rattle.sqs_model.specs.Accounts.{is_deleted, is_expired}
 use Rattle.sqs_model.specs.declared.finals.FinalMessage.{FinalMessage}
 use Rattle.sqs_model.specs.declared.finals.FinalTransfer.{FinalTransfer}
 use Rattle.sqs_model.specs.Longest.{deduplication_interval}
 use Rattle.sqs_model.specs.Scenario.{Scenario, least_latency}
-use Rattle.sqs_laws.specs.Groups.{IsByCall, WasGiven}
-use Rattle.sqs_laws.specs.Words.{EachNaming, EachRow, arrives_at, came_by, changed, comes, comings, flight, flying, goes_to, has_left, in_flight_at, is_change, is_delete, is_gone, is_in_flight, is_move, is_redrive, is_release, is_repeat, may_follow, origin_of, received, sent_by, that_stay, times}
+use Rattle.sqs_laws.specs.Sends.{Given, GivesAs, IsByCall, IsSender, WasGiven, key_given}
+use Rattle.sqs_laws.specs.Words.{EachNaming, EachRow, arrives_at, came_by, changed, comes, comings, flight, flying, goes_to, has_left, in_flight_at, is_change, is_delete, is_gone, is_in_flight, is_move, is_redrive, is_release, is_repeat, is_send, may_follow, origin_of, received, sent_by, that_stay, times}
 
 -- The end is the end. The messages that come to a queue are numbered from 0 on, and no row names one before it comes.
 -- Once it was deleted, has expired, or left for another queue, only answers gone and repeat and a consumer's fail and
@@ -125,6 +127,13 @@ pub record Ages (s : Scenario) (rows : List Row) : Type 0 where
       → (sent : Row) → sent_by m before ≡ Some sent
       → (q : QueueSettings) → slice_get s.queues r.queue ≡ Some q → r.key.at ≡ sent.key.at + q.retention)
 
+-- Sends. A message that a script or a producer sent to its queue is what it gives at that moment, and the row tells the
+-- digest of its body.
+pub record Sends (s : Scenario) (rows : List Row) : Type 0 where
+  pub given : EachRow rows (λ before r. IsTrue (is_send r.kind && comes r)
+      → (a : ActorSettings) → slice_get s.actors (r.agent - length s.queues) ≡ Some a → IsSender a.role
+      → (x : Given) × GivesAs s r.agent r.key.at x × (r.detail ≡ details.Digest (md5 x.body)))
+
 -- FIFO. When a message of a FIFO queue is received, each message of its group that came before it and is still in the
 -- queue was received by the same call; and no message of the group that came after it is in flight. Two messages are of
 -- one group if both were sent to the queue with it.
@@ -136,19 +145,29 @@ pub record FifoOrder (s : Scenario) (rows : List Row) : Type 0 where
       → (n : MessageId) (g : List ℕ) → n.site ≡ r.queue → WasGiven s before m g → WasGiven s before n g
       → m.number < n.number → flying n before ≡ false)
 
--- a row of a queue repeats a message: by another row that message came there, less than 5 minutes before
-pub record RepeatsRecent (before : List Row) (r : Row) : Type 0 where
+-- two rows send the same to a queue: what their actors give has one deduplication id and one scope
+abbrev pub SendTheSame : Scenario → Row → Row → Type 0
+SendTheSame s r x =
+    (q : QueueSettings) → slice_get s.queues r.queue ≡ Some q → IsTrue (is_send r.kind && is_send x.kind)
+    → (a b : Given) → GivesAs s r.agent r.key.at a → GivesAs s x.agent x.key.at b
+    → key_given q.kind a ≡ key_given q.kind b
+
+-- a row of a queue repeats a message: by another row that message came there, less than 5 minutes before, and if both
+-- are sends they send the same
+pub record RepeatsRecent (s : Scenario) (before : List Row) (r : Row) : Type 0 where
   pub message : MessageId
   pub by : Row
   pub names : r.message ≡ Some message
   pub came : came_by message before ≡ Some by
   pub recent : r.key.at < by.key.at + deduplication_interval
+  pub same : SendTheSame s r by
 
 -- Repeats. A row with the answer repeat is of a FIFO queue, and names a message that came there less than 5 minutes
--- before. At a standard queue nothing is a repeat.
+-- before. If it is of a send and the message was sent, both sends have one deduplication id, in one scope. At a
+-- standard queue nothing is a repeat.
 pub record Repeats (s : Scenario) (rows : List Row) : Type 0 where
   pub fifo : EachRow rows (λ before r. IsTrue (is_repeat r.answer) → IsTrue (fifo_at s r))
-  pub recent : EachRow rows (λ before r. IsTrue (is_repeat r.answer) → RepeatsRecent before r)
+  pub recent : EachRow rows (λ before r. IsTrue (is_repeat r.answer) → RepeatsRecent s before r)
 
 -- Time. Rows are in the order of time, none after the horizon.
 pub record InTime (s : Scenario) (rows : List Row) : Type 0 where
@@ -163,6 +182,7 @@ pub record KeepsTheRules (s : Scenario) (rows : List Row) : Type 0 where
   pub receipts : Receipts s rows
   pub origins : Origins rows
   pub ages : Ages s rows
+  pub sends : Sends s rows
   pub fifo : FifoOrder s rows
   pub repeats : Repeats s rows
   pub in_time : InTime s rows

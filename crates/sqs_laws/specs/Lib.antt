@@ -2,4 +2,4 @@ pub mod Words
 pub mod Laws
 pub mod Log
 pub mod Reach
-pub mod Groups
+pub mod Sends

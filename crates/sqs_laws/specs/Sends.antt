@@ -1,0 +1,89 @@
+-- What actors give to what they send: a body, a group and a deduplication id.
+use Rattle.std.specs.Fmt.{decimal}
+use Rattle.std.specs.Prelude.{List, None, Option, Some, length, slice_get, suc, zero, ℕ, ◌+◌, ◌-◌, ◌≡◌}
+use Rattle.sim_engine.specs.Members.{In}
+use Rattle.sqs_message.specs.declared.calls.Call.{Call}
+use Rattle.sqs_message.specs.declared.calls.Call.TheVariants as calls
+use Rattle.sqs_message.specs.declared.calls.ScriptCall.{ScriptCall}
+use Rattle.sqs_message.specs.declared.ids.MessageId.{MessageId}
+use Rattle.sqs_message.specs.declared.row.Row.{Row}
+use Rattle.sqs_model.specs.declared.agents.ActorSettings.{ActorSettings}
+use Rattle.sqs_model.specs.declared.agents.ProducerSettings.{ProducerSettings}
+use Rattle.sqs_model.specs.declared.agents.Role.{Role}
+use Rattle.sqs_model.specs.declared.agents.Role.TheVariants.{Consumer, Producer, Script}
+use Rattle.sqs_message.specs.Bodies.{filled}
+use Rattle.sqs_redrive.specs.declared.settings.Kind.{Kind}
+use Rattle.sqs_redrive.specs.declared.settings.Kind.TheVariants.{Fifo, Standard}
+use Rattle.sqs_redrive.specs.declared.settings.Scope.{Scope}
+use Rattle.sqs_redrive.specs.declared.settings.Scope.TheVariants as scopes
+use Rattle.sqs_model.specs.Actor.{group_of, id_given}
+use Rattle.sqs_model.specs.Calls.{deduplication_id}
+use Rattle.sqs_model.specs.Draw.{Draws, drawn_time}
+use Rattle.sqs_model.specs.Scenario.{Scenario, opening_draws}
+use Rattle.sqs_laws.specs.Words.{sent_by}
+
+-- what a send gives: a body, a group and a deduplication id
+pub record Given : Type 0 where
+  pub body : List ℕ
+  pub group : Option (List ℕ)
+  pub id : Option (List ℕ)
+
+-- what a call gives, if it is a send
+abbrev pub given_in : Call → Option Given
+given_in (calls.Send body delay group id) = Some (record { body = body; group = group; id = id })
+given_in _ = None
+
+-- when a producer sends a message, and its draws then: after a gap, drawn behind the group of the one before it
+abbrev pub after_gap : ℕ → ℕ × Draws → ℕ × Draws
+after_gap at (gap, draws) = (at + gap, draws)
+
+abbrev pub next_sending : ProducerSettings → ℕ → ℕ × Draws → ℕ × Draws
+next_sending p n (at, draws) = after_gap at (drawn_time p.gap (group_of p.groups n draws).1)
+
+-- when it sends its message n
+abbrev pub sending : Draws → ProducerSettings → ℕ → ℕ × Draws
+sending opening p zero = (p.start, opening)
+sending opening p (suc n) = next_sending p n (sending opening p n)
+
+-- what it gives then
+abbrev pub message_given : ProducerSettings → ℕ → ℕ → Draws → Given
+message_given p agent n draws =
+    record { body = filled (decimal n) p.body; group = (group_of p.groups n draws).0; id = id_given p agent n }
+
+-- what an actor of a role sends at a moment gives: a script's what its call gives, a producer's what its message does
+abbrev pub GivesAt : Draws → Role → ℕ → Given → Type 0
+GivesAt opening (Script cs) at x = (c : ScriptCall) × In cs c × (c.at ≡ at) × (given_in c.call ≡ Some x)
+GivesAt opening (Producer p) at x =
+    (n : ℕ) × ((sending opening p n).0 ≡ at) × (message_given p opening.agent n (sending opening p n).1 ≡ x)
+GivesAt opening (Consumer c) at x = ⊥
+
+-- a script or a producer, which alone send
+abbrev pub IsSender : Role → Type 0
+IsSender (Script cs) = Unit {0}
+IsSender (Producer p) = Unit {0}
+IsSender (Consumer c) = ⊥
+
+-- the same of the actor of this number
+abbrev pub GivesAs : Scenario → ℕ → ℕ → Given → Type 0
+GivesAs s agent at x =
+    (a : ActorSettings) × (slice_get s.actors (agent - length s.queues) ≡ Some a)
+    × GivesAt (opening_draws s.seed agent) a.role at x
+
+-- a message was sent to its queue with this group
+abbrev pub WasGiven : Scenario → List Row → MessageId → List ℕ → Type 0
+WasGiven s rows m g =
+    (r : Row) × (sent_by m rows ≡ Some r) × (x : Given) × GivesAs s r.agent r.key.at x × (x.group ≡ Some g)
+
+-- the scope of what is given, which is its group or the whole queue, and its deduplication id: its own, or of its body
+abbrev pub scope_given : Scope → Option (List ℕ) → Option (List ℕ)
+scope_given scopes.Queue group = None
+scope_given scopes.Group group = group
+
+abbrev pub key_given : Kind → Given → Option (List ℕ) × Option (List ℕ)
+key_given (Standard hosts sampled) x = (None, None)
+key_given (Fifo content scope) x = (scope_given scope x.group, deduplication_id content x.body x.id)
+
+-- whether a message is in flight by the call of a row
+abbrev pub IsByCall : Row → Option Row → Type 0
+IsByCall r None = ⊥
+IsByCall r (Some f) = (f.agent ≡ r.agent) × (f.key.at ≡ r.key.at)
