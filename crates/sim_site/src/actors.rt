@@ -290,6 +290,7 @@ impl Actors {
     }
 
     /// What copies go by whose scaler is the actor with a number. Nothing if it is none.
+    #[inline(never)]
     pub fn standing_of(&self, number: u32) -> Standing
         ensures { result ≡ standing_of (find (is_actor number) self.now) }
     {

@@ -86,6 +86,7 @@ impl Life {
     }
 
     // Draws whether a service of the messages that it holds fails.
+    #[inline(always)]
     fn draw_failure(&mut self, consumer: &ConsumerSettings, now: u64) -> bool
         requires words { self.old.draws.taken < most_count }
         ensures decision { drawn_failure consumer.now now self.old.held self.old.draws
@@ -97,7 +98,9 @@ impl Life {
     }
 
     // Begins a service that takes so much time, or another if it fails. It is decided now whether it
-    // will fail.
+    // will fail. It is apart from services that decide this at their end, which nearly all are.
+    #[cold]
+    #[inline(never)]
     fn begin_decided(
         &mut self,
         consumer: &ConsumerSettings,

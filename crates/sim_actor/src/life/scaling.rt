@@ -191,6 +191,7 @@ impl Life {
     }
 
     // A scaler's wake has come, when so many messages of its queue are visible.
+    #[inline(never)]
     pub(crate) fn scaler_wake(
         &mut self,
         scaler: &ScalerSettings,
@@ -254,6 +255,7 @@ impl Life {
     }
 
     // A copy's wake has come, and it has nothing to do but to go by its scaler.
+    #[inline(never)]
     fn copy_rest(
         &mut self,
         consumer: &ConsumerSettings,
@@ -280,6 +282,7 @@ impl Life {
     }
 
     // A consumer's wake has come. It goes by its scaler, if it has one and nothing else to do.
+    #[inline(always)]
     pub(crate) fn copy_wake(
         &mut self,
         consumer: &ConsumerSettings,

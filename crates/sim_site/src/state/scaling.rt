@@ -33,6 +33,7 @@ impl Core {
     }
 
     /// A scaler changes how many copies ask. This makes a row. The only error is `Memory`.
+    #[inline(never)]
     #[tactic(auto, unfolding(sqs_model::specs::Acts::act_made))]
     pub fn scale(
         &mut self,
