@@ -14,7 +14,7 @@ use Rattle.sqs_redrive.specs.declared.settings.QueueSettings.{QueueSettings}
 use Rattle.sqs_redrive.specs.declared.settings.TaskSettings.{TaskSettings}
 use Rattle.sqs_model.specs.declared.agents.ActorSettings.{ActorSettings}
 use Rattle.sqs_model.specs.declared.agents.Role.{Role}
-use Rattle.sqs_model.specs.declared.agents.Role.TheVariants.{Consumer, Producer, Script}
+use Rattle.sqs_model.specs.declared.agents.Role.TheVariants.{Consumer, Producer, Scaler, Script}
 use Rattle.sqs_model.proofs.Counts.{ascends_lower}
 use Rattle.sqs_model.proofs.Opening.{all_enumerated, ascends_enumerated, ascends_filter}
 use Rattle.sqs_model.specs.Progress.{Ascends}
@@ -123,6 +123,7 @@ role_in_range : (r : Role) → IsScenarioRole r → IsRole r
 role_in_range (Script script) h = h.few
 role_in_range (Producer p) h = h
 role_in_range (Consumer c) h = h
+role_in_range (Scaler s) h = h
 
 waits_within : (call : Call) → waits call ≤ 20 → WaitsWithin call
 waits_within (calls.Send body delay group id) h = tt
@@ -136,6 +137,7 @@ waits_shortly : (r : Role) → IsScenarioRole r → HasShortWaits r
 waits_shortly (Script script) h = All-weaker (λ (c : ScriptCall). waits c.call ≤ 20) (λ c. WaitsWithin c.call) (λ c k. waits_within c.call k) script h.waiting
 waits_shortly (Producer p) h = tt
 waits_shortly (Consumer c) h = omega (arith, h.wait)
+waits_shortly (Scaler s) h = tt
 
 -- agents with which sites can be set up
 record AreFit (roles : List (ℕ × ActorSettings)) (moves : List (ℕ × TaskSettings)) : Type 0 where
