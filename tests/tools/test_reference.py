@@ -132,8 +132,8 @@ FAULTS = [
     (SENT, "gap = []", "11 UnknownKey at actor[0].gap_max_ms"),
     (PRODUCER, "gap = [[0, 1], [1000, 0]]", "14 OutOfRange at actor[0].gap[1]"),
     (SCALER, "", "12 MissingKey at actor[0].every_s"),
-    (SCALED, "start_ms = 2592000000\nreading_s = 59\ncopies_min = 2\nadded_max = 1\ntaken_max = 1000\ncooldown_in_s = 86400",
-     ""),
+    (SCALED, "start_ms = 2592000000\nreading_s = 59\ncopies_min = 2\nadded_max = 1\ntaken_max = 1000\n"
+             "cooldown_in_s = 86400", ""),
     (SCALED, "reading_s = 60\ncopies_min = 3", "14 OutOfRange at actor[0].reading_s"),
     (SCALED, "copies_min = 3\nadded_max = 0", "14 OutOfRange at actor[0].copies_max"),
     (SCALED, "copies_min = 1001", "14 OutOfRange at actor[0].copies_min"),
@@ -331,7 +331,8 @@ class VersionThree(unittest.TestCase):
             text = re.sub('kind = "consumer"\nqueue = "(.*)"\n',
                           lambda it: f'{it[0]}scaler = "x{homes.index(it[1])}"\nscaler_start_ms = 700\n', text)
             for number, home in enumerate(homes):
-                text += SCALED[len(HEAD):].replace('"x"', f'"x{number}"').replace('"q"', f'"{home}"').replace("= 2", "= 1")
+                always_one = SCALED[len(HEAD):].replace("= 2", "= 1")
+                text += always_one.replace('"x"', f'"x{number}"').replace('"q"', f'"{home}"')
             with self.subTest(seed=seed):
                 self.assertEqual(first_difference(wanted, referred(text.encode("utf-8"), 3)), "")
             scaled += 1
