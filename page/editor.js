@@ -155,7 +155,7 @@ export class Editor {
     while (first >= 0 && !HEADER.test(lines[first])) first--;
     while (last < lines.length && !HEADER.test(lines[last])) last++;
     const block = lines.slice(Math.max(0, first), last), of = first >= 0 ? HEADER.exec(lines[first])?.[1] ?? '' : '';
-    const kinds = /^\s*kind\s*=\s*["'](script|producer|consumer)["']/m;
+    const kinds = /^\s*kind\s*=\s*["'](script|producer|consumer|scaler)["']/m;
     const kind = of === 'actor' ? kinds.exec(block.join('\n'))?.[1] ?? '' : '';
     const version = Number(/^\s*version\s*=\s*([123])\b/m.exec(this.text)?.[1] ?? 1);
     const there = block.flatMap(line => /^\s*([\w-]+)\s*=/.exec(line)?.[1] ?? []);

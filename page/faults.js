@@ -191,12 +191,20 @@ export function rangeText(key) {
   return ` It has ${grouped(key.low ?? 0)} to ${grouped(key.high ?? 0)}${byDefault}.`;
 }
 
+// The value of the key that is the least value of a key, or its default.
+/** @param {Fault} fault @param {Key | undefined} key @returns {unknown} */
+function leastOf(fault, key) {
+  if (!key?.least) return undefined;
+  const byDefault = fault.keys.find(({ name }) => name === key.least)?.default;
+  return fault.value(key.least) ?? (typeof byDefault === 'number' ? BigInt(byDefault) : undefined);
+}
+
 // The range of a key, which begins at the value of another one where that is its least.
 /** @param {Fault} fault @param {Key | undefined} key */
 function rangeBeside(fault, key) {
-  const least = key?.least ? fault.value(key.least) : undefined;
+  const least = leastOf(fault, key);
   const isIn = typeof least === 'bigint' && key && least >= BigInt(key.low ?? 0) && least <= BigInt(key.high ?? 0);
-  if (!isIn) return rangeText(key);
+  if (!key || !isIn) return rangeText(key);
   return ` It has ${grouped(least)} to ${grouped(key.high ?? 0)}, as ${key.least} is ${grouped(least)}.`;
 }
 
@@ -316,13 +324,17 @@ function outOfRange(fault) {
   if (key === 'queue' && !fault.of) return 'A scenario has at least one queue.';
   if (fault.item !== null) return itemOutOfRange(fault);
   if (RULES.lists[found?.kind ?? ''] || node?.type === 'list') return wrongLength(fault);
-  if (key === 'kind') return `${text}${rangeText(found ?? KEYS['actor//1'][1])}${nearest(value, ACTORS)}`;
+  if (key === 'kind' && ACTORS.includes(value)) return `${text} A ${value} is an actor of version ${PREVIEW}.`;
+  if (key === 'kind') return `${text}${rangeText(found)}${nearest(value, found?.words ?? ACTORS)}`;
   if (key === 'body') return `${text} It has 1 byte at least for the first message, and 1,024 at most for the last.`;
   if (key === 'script') {
     return `${text} The name of a script has 1 to 80 ASCII letters, digits, ., - and _, and no dot first.`;
   }
   if (key === 'sampled') return `${text} It has 1 to hosts, which is ${fault.value('hosts') ?? 1}.`;
-  const least = found?.least && fault.value(found.least);
+  if (key === 'reading_s') {
+    return `${text} It has 0 to ${grouped(Number(fault.value('every_s')) - 1)}, since it is less than every_s.`;
+  }
+  const least = leastOf(fault, found);
   if (typeof least === 'bigint' && typeof node?.value === 'bigint' && node.value < least) {
     return `${text} It may not be less than ${found?.least}, which is ${grouped(least)}.`;
   }
@@ -376,9 +388,20 @@ function nameTwice(fault) {
     : `${taken.get(name)} has the name ${shown(name)} already; queues, actors and tasks share their names.`;
 }
 
+// The names of the scalers at the home of an actor.
+/** @param {Fault} fault */
+const scalersAt = fault => fault.scenario.items('actor').flatMap(item => {
+  const name = said(item, 'name'), isThere = said(item, 'queue') === fault.value('queue');
+  return said(item, 'kind') === 'scaler' && isThere && typeof name === 'string' ? [name] : [];
+});
+
 /** @param {Fault} fault */
 function unknownQueue(fault) {
   const { key } = fault, value = String(fault.node?.value), title = fault.title();
+  if (key === 'scaler') {
+    return `${whatIsHere(fault)} is ${shown(value)}, and no actor with kind = "scaler" at its queue has this name.`
+      + nearest(value, scalersAt(fault));
+  }
   const queues = fault.scenario.items('queue').flatMap(item => {
     const name = said(item, 'name');
     return typeof name === 'string' ? [name] : [];

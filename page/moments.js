@@ -14,7 +14,7 @@ import { DELAYED, IN_FLIGHT, VISIBLE } from './queue.js';
 
 /** The rows whose numbers are told. */
 export const TOLD_ROWS = ['send,new', 'receive,ok', 'delete,deleted', 'fail,ok', 'forward,out', 'redrive,out',
-  'move,out'];
+  'move,out', 'scale,ok'];
 
 /** @param {MomentQuestion} question @param {number} i */
 const momentOf = ({ from, to, count }, i) => from + (to - from) * i / (count - 1);

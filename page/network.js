@@ -13,10 +13,10 @@ import { agentsOf, forwardsOf, said } from './scenario.js';
  * @typedef {{ queue: string, agents: string[], row: string, share?: number }} Flow
  */
 /**
- * @typedef {{ id: string, kind: 'queue' | 'dead' | 'producer' | 'consumer' | 'script' | 'task', names: string[],
- *   agents: string[], queue: string }} NetworkNode
+ * @typedef {{ id: string, kind: 'queue' | 'dead' | 'producer' | 'consumer' | 'script' | 'scaler' | 'task',
+ *   names: string[], agents: string[], queue: string }} NetworkNode
  */
-/** @typedef {'send' | 'receive' | 'forward' | 'dead' | 'move'} EdgeKind */
+/** @typedef {'send' | 'receive' | 'forward' | 'dead' | 'move' | 'scale'} EdgeKind */
 /** @typedef {{ from: string, to: string, kind: EdgeKind, flow: Flow }} NetworkEdge */
 
 /** The name that a node has in a key, if it is a text.
@@ -54,7 +54,8 @@ export function networkOf(scenario) {
   for (const node of actorNodes(scenario)) {
     nodes.set(node.id, node);
     const { id, kind, agents, queue } = node, flow = (/** @type {string} */ row) => ({ queue, agents, row });
-    if (kind !== 'consumer') join(id, queue, 'send', flow('send,new'));
+    if (kind === 'scaler') join(queue, id, 'scale', flow('scale,ok'));
+    else if (kind !== 'consumer') join(id, queue, 'send', flow('send,new'));
     else join(queue, id, 'receive', flow('receive,ok'));
     const { forwards } = node;
     for (const to of new Set(forwards)) {
@@ -82,7 +83,8 @@ function actorNodes(scenario) {
   const found = new Map();
   for (const actor of scenario.items('actor')) {
     const [name, queue, kind] = ['name', 'queue', 'kind'].map(key => nameIn(actor, key)), forwards = forwardsOf(actor);
-    if (name === null || queue === null || kind !== 'producer' && kind !== 'consumer' && kind !== 'script') continue;
+    if (name === null || queue === null
+      || kind !== 'producer' && kind !== 'consumer' && kind !== 'script' && kind !== 'scaler') continue;
     const id = [kind, queue, forwards.join(' ')].join(' '), agents = agentsOf(actor, name), node = found.get(id);
     if (node) {
       node.names.push(name);

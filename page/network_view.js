@@ -30,10 +30,11 @@ const LETTERS = { queue: 19, actor: 17 }, GAP = 12, RANK_GAP = { LR: 28, TB: 40 
 const STROKES = { least: 1.2, more: 3.4 };
 const PLACES = ['visible', 'in-flight', 'delayed'];
 const ARROWS = { ArrowRight: 1, ArrowDown: 1, ArrowLeft: -1, ArrowUp: -1 };
-const ROWS_OF = { producer: 'send,new', script: 'send,new', consumer: 'delete,deleted', task: 'move,out' };
-const VERBS = { producer: 'sent', script: 'sent', consumer: 'deleted', task: 'moved' };
+const ROWS_OF = { producer: 'send,new', script: 'send,new', consumer: 'delete,deleted', task: 'move,out',
+  scaler: 'scale,ok' };
+const VERBS = { producer: 'sent', script: 'sent', consumer: 'deleted', task: 'moved', scaler: 'changed' };
 const KIND_WORDS = { queue: 'queue', dead: 'dead-letter queue', producer: 'producer', consumer: 'consumer',
-  script: 'script', task: 'move task' };
+  script: 'script', task: 'move task', scaler: 'scaler' };
 
 /** @param {string} text @param {number} most */
 const cut = (text, most) => text.length > most ? `${text.slice(0, most - 1)}…` : text;

@@ -36,6 +36,10 @@ export class Queue {
     this.used = new Set();
     this.onTheirWay = this.received = this.handledOnce = this.handledMore = 0;
     this.triesMost = this.timesHandledMost = 1;
+    // how often its scalers changed how many copies ask, and the most that one of them let ask
+    this.copiesChanged = 0;
+    /** @type {number | null} */
+    this.copiesMost = null;
     /** @type {Set<string>} */
     this.deadLetteredTo = new Set();
     /** @type {Set<string>} */
@@ -94,6 +98,13 @@ export class Queue {
   releases(time, message) {
     this.wasDelayed(message);
     this.put(time, message, VISIBLE);
+  }
+
+  // A scaler changes how many copies ask.
+  /** @param {number} from @param {number} to */
+  scales(from, to) {
+    this.copiesChanged++;
+    this.copiesMost = Math.max(from, to, this.copiesMost ?? 0);
   }
 
   // Takes in, if a message has not moved since it came, that it has been delayed since.

@@ -8,6 +8,8 @@ import { TOLD_ROWS } from './moments.js';
 import { Queue } from './queue.js';
 import { fixed, textOf } from './units.js';
 
+const SLASH = '/'.charCodeAt(0);
+
 /** @typedef {import('./log.js').Head} Head */
 /** @typedef {import('./figures.js').QueueFigures} QueueFigures */
 /** @typedef {ReturnType<Run['valuesOf']>} Values The numbers of a queue, by the keys of `tools/summary --json`. */
@@ -86,7 +88,7 @@ export class Run {
     const reported = (/** @type {string} */ column) => Number(record[this.columns.indexOf(column)]);
     const handled = queue.handledOnce + queue.handledMore, isMoved = figures.moved_age_p50_ms !== null;
     return {
-      ...figures, queue: queue.name,
+      ...figures, queue: queue.name, copies_changed: queue.copiesChanged, copies_greatest: queue.copiesMost,
       came_in: figures.sent + figures.came_by_forward + figures.came_by_redrive + figures.came_by_move,
       repeated_sends: figures.sent_again + figures.forwarded_again, handled_once: queue.handledOnce,
       handled_more_than_once: queue.handledMore, handled_yet_not_deleted: handled - figures.deleted,
@@ -133,6 +135,10 @@ const TAKERS = {
   'move,out'(time, head, message, receipt, from, to) {
     this.goesTo(head, from, to, head.queue.movedTo);
     head.queue.leaves(time, message);
+  },
+  'scale,ok'(time, head, message, receipt, from, to) {
+    const slash = this.bytes.indexOf(SLASH, from);
+    head.queue.scales(this.numberAt(from, slash), this.numberAt(slash + 1, to));
   },
   'expire,expired'(time, head, message) {
     head.queue.expiredAt.push(time);

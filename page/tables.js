@@ -4,7 +4,7 @@
 
 import { byId, element, tableOf } from './dom.js';
 import { LINES, SHARES } from './facts.js';
-import { duration, fixed, grouped, hundredths } from './units.js';
+import { duration, fixed, grouped, hundredths, several } from './units.js';
 
 /** @typedef {import('./run.js').Values} Values */
 /** @typedef {import('./side.js').Side} Side */
@@ -36,6 +36,7 @@ function noteOf(key, values) {
     return `${share}, at most ${grouped(values.times_handled_greatest ?? 0)} times`;
   }
   if (key === 'dead_lettered' && values[key]) return `${share}, to ${named(values.dead_lettered_to)}`;
+  if (key === 'copies_greatest') return `changed ${several(values.copies_changed, 'time')}`;
   if (key === 'moved_away') return `${share}, to ${named(values.moved_to)}`;
   if (key === 'depth_greatest' && values[key]) return `at ${duration(values.depth_greatest_at_ms ?? 0)}`;
   if (key !== 'backlog_gone_at_ms') return share;

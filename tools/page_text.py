@@ -44,7 +44,7 @@ MARK = re.compile("@([A-Z]+)@")
 POLICY = ("default-src 'none'; script-src 'sha256-{script}' 'wasm-unsafe-eval'; worker-src blob:; "
           "style-src 'sha256-{style}'; img-src data:; base-uri 'none'; form-action 'none'")
 SCHEMA_OF = {"": "", "queue": "queue", "task": "task", "script": "script", "producer": "producer",
-             "consumer": "consumer"}
+             "consumer": "consumer", "scaler": "scaler"}
 
 
 def module_in(path: str, page: bytes) -> bytes:

@@ -1,9 +1,10 @@
-"""Scripts, producers and consumers: what each does when it wakes, and when it wakes next."""
+"""Scripts, producers, consumers and scalers: what each does when it wakes, and when it wakes next."""
 from collections.abc import Sequence
 from typing import Protocol
 
 from queues import Load, Message
-from settings import ActorSettings, ConsumerSettings, Forwarding, ProducerSettings, ScriptSettings
+from settings import (ActorSettings, ConsumerSettings, Forwarding, ProducerSettings, ScalerSettings, Scaling,
+                      ScriptSettings)
 from words import Draws, place_by_weight
 
 
@@ -30,6 +31,10 @@ class Home(Protocol):
     def start_or_cancel(self, agent: int, call: str, name: str) -> None: ...
 
     def visibility_s(self) -> int: ...
+
+    def visible(self) -> int: ...
+
+    def scaler(self, agent: int) -> "Scaler": ...
 
 
 class Actor:
@@ -110,9 +115,11 @@ class Held:
 class Consumer(Actor):
     """Asks for messages, serves one after another, and settles each: by a delete, or a change of its visibility."""
 
-    def __init__(self, agent: int, settings: ConsumerSettings, seed: int) -> None:
+    def __init__(self, agent: int, settings: ConsumerSettings, seed: int, place: int = 0) -> None:
         super().__init__(agent, seed, settings.start)
-        self.settings = settings
+        self.settings, self.place = settings, place
+        # Whether its scaler wants fewer copies, so that it asks for nothing.
+        self.is_parked = False
         # What it got for one batch; what of that is not served, with the one in service first; what is left to settle.
         self.batch: list[Held] = []
         self.unserved: list[Held] = []
@@ -134,8 +141,21 @@ class Consumer(Actor):
             self.beat(home)
         elif self.unserved:
             self.end_service(home)
+        elif settings.scaling is not None and not self.goes_on(home, settings.scaling):
+            return
         elif settings.stop is None or home.now < settings.stop:
             self.ask(home, settings.batch, settings.wait_s)
+
+    def goes_on(self, home: Home, scaling: Scaling) -> bool:
+        """Whether a copy that has nothing to do may ask now. One that its scaler does not want parks until the scaler
+        wakes next. One that was parked and is wanted asks when it has started."""
+        scaler, was_parked = home.scaler(scaling.scaler), self.is_parked
+        self.is_parked = self.place >= scaler.copies
+        if self.is_parked:
+            self.next_wake = None if scaler.next_wake is None else max(home.now + 1, scaler.next_wake)
+        elif was_parked:
+            self.next_wake = home.now + max(1, scaling.start)
+        return not (self.is_parked or was_parked)
 
     def ask(self, home: Home, most: int, wait_s: int) -> None:
         messages = home.receive(self, most, wait_s, self.settings.timeout_s)
@@ -251,10 +271,43 @@ class Consumer(Actor):
             home.transfer(self.agent, queue, time, Load("forward", held.id, held.body, held.group))
 
 
+class Scaler(Actor):
+    """Reads how many messages are visible, and decides by that how many copies of consumers ask."""
+
+    def __init__(self, agent: int, settings: ScalerSettings, seed: int) -> None:
+        super().__init__(agent, seed, settings.start)
+        self.settings, self.copies, self.changed = settings, settings.copies_min, 0
+        # The number that it read and has not decided by.
+        self.read: int | None = None
+
+    def wake(self, home: Home, number: int) -> None:
+        settings = self.settings
+        if self.read is None and settings.reading > 0:
+            self.read, self.next_wake = home.visible(), home.now + settings.reading
+            return
+        visible, self.read = home.visible() if self.read is None else self.read, None
+        self.next_wake = home.now + settings.every - settings.reading
+        copies = self.decided(home.now, settings.wanted(visible))
+        if copies != self.copies:
+            home.row(self.agent, "scale", "ok", "", "", f"{self.copies}/{copies}")
+            self.copies, self.changed = copies, home.now
+
+    def decided(self, now: int, wanted: int) -> int:
+        """How many copies ask from now on, if so many are wanted."""
+        settings = self.settings
+        if wanted > self.copies:
+            may_change = now >= self.changed + settings.cooldown_out
+            return min(wanted, self.copies + settings.added_max) if may_change else self.copies
+        may_change = now >= self.changed + settings.cooldown_in
+        return max(wanted, self.copies - settings.taken_max) if may_change else self.copies
+
+
 def actor_of(agent: int, settings: ActorSettings, seed: int) -> Actor:
     """An actor that has done nothing."""
     if isinstance(settings.role, ScriptSettings):
         return Script(agent, settings.role, seed)
     if isinstance(settings.role, ProducerSettings):
         return Producer(agent, settings.role, seed)
-    return Consumer(agent, settings.role, seed)
+    if isinstance(settings.role, ScalerSettings):
+        return Scaler(agent, settings.role, seed)
+    return Consumer(agent, settings.role, seed, settings.place)

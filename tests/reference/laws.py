@@ -3,6 +3,7 @@
 Each law is a function over a log's rows, in order. It raises Broken at the first row that breaks it. Nothing here is
 shared with the simulator, with the tools or with the reference beside this file.
 """
+import bisect
 import collections
 import csv
 import functools
@@ -115,7 +116,9 @@ class Scenario:
         self.actors: dict[str, Table] = {
             actor["name"]: {**actor, "number": len(self.queues) + n}
             for n, actor in enumerate(self.agents(table.get("actor", [])))}
-        self.tasks: dict[str, Table] = {task["name"]: task for task in table.get("task", [])}
+        self.tasks: dict[str, Table] = {
+            task["name"]: {**task, "number": len(self.queues) + len(self.actors) + n}
+            for n, task in enumerate(table.get("task", []))}
         for actor in self.actors.values():
             if actor["kind"] == "script":
                 text_of = actor["calls"] if "calls" in actor else (folder / actor["script"]).read_text("utf-8-sig")
@@ -538,6 +541,88 @@ def journeys(log: Log, scenario: Scenario) -> None:
     must(not late, None, "never arrives")
 
 
+# ---- scalers ----
+class Wakes:
+    """What the rows of a queue say that was before a wake of an actor: its number at a moment, after all that agents with
+    lesser numbers do then."""
+
+    def __init__(self, log: Log, scenario: Scenario, queue: str):
+        given = Sends(log, scenario).given
+        numbered: dict[str, Table] = {**scenario.queues, **scenario.actors, **scenario.tasks}
+        self.keys: list[tuple[int, int]] = []
+        self.rows: list[Row] = []
+        self.asked: list[tuple[int, Row]] = []
+        self.visible = [0]
+        there: set[str] = set()
+        waiting: set[str] = set()
+        for place, row in enumerate(log):
+            if row.queue != queue:
+                continue
+            last = self.keys[-1] if self.keys and self.keys[-1][0] == row.at else (row.at, 0)
+            answers = row.agent in waiting and row.call == "receive"
+            if answers and row.answer == "ok":
+                # it is a part of what brought the message
+                self.keys.append(last)
+            else:
+                self.keys.append(max(last, (row.at, numbered[row.agent]["number"])))
+            if row.call == "receive" and not answers:
+                self.asked.append((len(self.keys) - 1, row))
+            (waiting.add if row.answer == "wait" else waiting.discard)(row.agent)
+            if row.call == "release" or row.comes() and not given[place].delay_s:
+                there.add(row.message)
+            elif row.is_received() or row.leaves():
+                there.discard(row.message)
+            self.rows.append(row)
+            self.visible.append(len(there))
+
+    def visible_before(self, at: int, number: int) -> int:
+        return self.visible[bisect.bisect_left(self.keys, (at, number))]
+
+
+def changes_of(scaler: Table, wakes: Wakes, horizon: int) -> Iterator[tuple[int, str]]:
+    """When a scaler changes how many copies ask, and both numbers as a row tells them."""
+    number, reading = scaler["number"], 1000 * scaler.get("reading_s", 0)
+    copies, changed = scaler.get("copies_min", 1), 0
+    for read_at in range(scaler.get("start_ms", 0), horizon - reading + 1, 1000 * scaler["every_s"]):
+        visible, now = wakes.visible_before(read_at, number), read_at + reading
+        whole, part = divmod(visible, scaler["visible_per_copy"])
+        wanted = min(scaler["copies_max"], max(scaler.get("copies_min", 1), whole + (part > 0)))
+        after = copies
+        if wanted > copies and now >= changed + 1000 * scaler.get("cooldown_out_s", 0):
+            after = min(wanted, copies + scaler.get("added_max", 1000))
+        elif wanted < copies and now >= changed + 1000 * scaler.get("cooldown_in_s", 0):
+            after = max(wanted, copies - scaler.get("taken_max", 1000))
+        if after != copies:
+            yield now, f"{copies}/{after}"
+            copies, changed = after, now
+
+
+def scalers(log: Log, scenario: Scenario) -> None:
+    """The rows `scale` of a scaler are just its changes, by how many messages were visible when it read."""
+    for name, actor in scenario.actors.items():
+        if actor["kind"] == "scaler":
+            told = [row for row in log if row.call == "scale" and row.agent == name]
+            changes = list(changes_of(actor, Wakes(log, scenario, actor["queue"]), scenario.horizon))
+            for row, change in zip(told, changes):
+                must((row.at, row.detail) == change, row, f"changes at {change[0]} to {change[1]}")
+            must(len(told) == len(changes), None, f"{name} changes {len(changes)} times, and {len(told)} rows tell that")
+
+
+def copies(log: Log, scenario: Scenario) -> None:
+    """A copy that its scaler does not want asks for nothing, but for more of a batch that it gathers."""
+    scaled = {name: actor for name, actor in scenario.actors.items() if "scaler" in actor and not actor.get("gather_ms")}
+    for queue in {actor["queue"] for actor in scaled.values()}:
+        wakes = Wakes(log, scenario, queue)
+        for place, row in wakes.asked:
+            if row.agent in scaled:
+                actor = scaled[row.agent]
+                scaler = scenario.actors[actor["scaler"]]
+                said = [it for it in wakes.rows[:place] if it.call == "scale" and it.agent == scaler["name"]]
+                number = int(said[-1].detail.partition("/")[2]) if said else scaler.get("copies_min", 1)
+                nth = int(row.agent.rpartition("-")[2]) if "copies" in actor else 1
+                must(nth <= number, row, f"asks while {number} copies are to ask")
+
+
 # ---- what the rows say of the end ----
 def what_is_left(log: Log, scenario: Scenario, ending: Ending) -> None:
     """The final queues have just the messages that came to a queue and have not left it, queue by queue in the order of
@@ -570,7 +655,7 @@ def what_is_under_way(log: Log, scenario: Scenario, ending: Ending) -> None:
 
 
 LAWS: tuple[Callable[[Log, Scenario], None], ...] = (
-    in_flight, the_end, dead_letters, receipts, time, delay_and_retention, fifo, deduplication, journeys)
+    in_flight, the_end, dead_letters, receipts, time, delay_and_retention, fifo, deduplication, journeys, scalers, copies)
 
 
 ENDING_LAWS: tuple[Callable[[Log, Scenario, Ending], None], ...] = (what_is_left, what_is_under_way)

@@ -16,10 +16,11 @@ EDITED_LINES = ["speed = 1", 'name = "q0"', "delay_s = -1", "hosts = 17", "body 
                 'batch_service = "once"', "service_each_ms = 7", "fails_between_ms = [[1, 9], [5, 5]]",
                 "fails_permille = 10", 'backoff_jitter = "full"', "heartbeat_s = 1", "fail_service_ms = 7",
                 "service = [[0, 1], [1000, 5]]", "backoff_s = []", "gap = 7", 'forward = ["q0"]',
-                "fails_permille = [1, 2]", 'key_groups = [["g", 1]]']
+                "fails_permille = [1, 2]", 'key_groups = [["g", 1]]', 'scaler = "x0"', "scaler_start_ms = 7", "every_s = 3",
+                "reading_s = 2", "copies_min = 1", "copies_max = 0", "added_max = 0", "cooldown_in_s = 86401"]
 EDITED_VALUES = ["-1", "0", "1", "3", "901", "43201", "99999999999", "9223372036854775807", "1.5", "true", '""',
                  '"abc"', '"a b"', "[]", "{}", "1979-05-27", '"q0"', '"q1.fifo"', '"script"', '"producer"',
-                 '"consumer"', "[[0, 1], [0, 2], [1000, 3]]", "[[0, 5], [1000, 4]]", "[[0, 1], [999, 2]]", "[1, 2]",
+                 '"consumer"', '"scaler"', '"x0"', "[[0, 1], [0, 2], [1000, 3]]", "[[0, 5], [1000, 4]]", "[[0, 1], [999, 2]]", "[1, 2]",
                  '[["g", 0]]', '[["g h", 1]]', "[[1000, 1], [0, 1]]", '"once"', '"full"', "[[9, 8]]"]
 EDITED_FIELDS = ["", "01", "-1", "11", "99999999999", "21", "k0", '"', 'a"b', "4294967295", "4294967296", "é"]
 EDITED_TOPS = ["task = 3", "actor = {}", "queue = []", "actor = [1]", "task = [{}]", "extra = 1", "seed = -1"]
@@ -70,13 +71,17 @@ class Maker:
         self.names = [f"q{number}.fifo" if is_fifo else f"q{number}" for number, is_fifo in enumerate(self.fifo)]
         self.dead_letters: set[int] = set()
         self.tasks: dict[int, list[str]] = {}
+        self.scalers: dict[int, str] = {}
         top = {"version": self.version, "horizon": horizon,
                "seed": self.rarely(0.6, [0, 1, 7, 2 ** 63 - 1, self.random.randrange(10 ** 9)]),
                "sample": self.rarely(0.3, [1000, 500, 777]) if horizon <= 70_000 else None}
         head = "".join(f"{key} = {value}\n" for key, value in top.items() if value is not None)
         queues = [self.queue(number) for number in range(count)]
         tasks = [self.task(number) for number in range(self.one([0, 1, 2]) if self.dead_letters else 0)]
+        scalers = [self.scaler(number) for number in range(count) if self.has_scaler()]
         actors = [self.actor(number) for number in range(self.one([1, 2, 3, 4, 5]))]
+        for scaler in scalers:
+            actors.insert(self.random.randrange(len(actors) + 1), scaler)
         return head + "".join(queues + actors + tasks)
 
     def one_queue(self) -> str:
@@ -140,6 +145,23 @@ class Maker:
         own = self.producer(home) if kind == "producer" else self.consumer(home)
         return table("actor", {key: value for key, value in (keys | own).items() if key not in self.without})
 
+    def has_scaler(self) -> bool:
+        return self.version == 3 and "scaler" not in self.without and self.random.random() < 0.5
+
+    def scaler(self, home: int) -> str:
+        """A scaler that wakes some times, but not too often."""
+        every = self.one([1, 1, 2, 3, 5] if self.horizon <= 20_000 else [7, 20, 60] if self.horizon < 10 ** 6 else [86_400])
+        least = self.rarely(0.7, [0, 0, 1, 2])
+        self.scalers[home] = f"x{home}"
+        return table("actor", {
+            "name": self.scalers[home], "kind": "scaler", "queue": self.names[home],
+            "start_ms": self.rarely(0.5, [0, 1, 100, 999, 1000]), "every_s": every,
+            "reading_s": self.rarely(0.4, range(min(every, 20))), "visible_per_copy": self.one([1, 1, 2, 5]),
+            "copies_min": least, "copies_max": (1 if least is None else least) + self.one([0, 1, 1, 2, 5, 900]),
+            "added_max": self.rarely(0.4, [1, 1, 2, 1000]), "taken_max": self.rarely(0.4, [1, 1, 2, 1000]),
+            "cooldown_out_s": self.rarely(0.4, [0, 1, 2, every, 10]),
+            "cooldown_in_s": self.rarely(0.4, [0, 1, 2, every, 10])})
+
     def quantiles(self, times: Sequence[int]) -> list[list[int]]:
         """Two to five pairs whose times are among these, with equal ones."""
         inner = sorted(self.random.sample(range(1, 1000), self.one([0, 0, 1, 2, 3])))
@@ -185,7 +207,7 @@ class Maker:
             "fail_permille": self.one([0, 0, 100, 500, 1000]), "idle_ms": self.one(idle)}
         if self.random.random() < 0.6:
             keys = {**keys, "forward": self.forward(kin), **self.latency()}
-        return keys | (self.new_keys(start) if self.version == 3 else {})
+        return keys | (self.new_keys(start, self.scalers.get(home)) if self.version == 3 else {})
 
     def forward(self, kin: Sequence[int]) -> object:
         """One queue, or several, which may be the same."""
@@ -193,16 +215,23 @@ class Maker:
             return self.names[self.one(kin)]
         return [self.names[self.one(kin)] for _ in range(self.one([1, 2, 2, 3, 10]))]
 
-    def new_keys(self, start: int) -> dict[str, object]:
+    def new_keys(self, start: int, scaler: str | None) -> dict[str, object]:
         """What version 3 has besides."""
         keys = {"gather_ms": self.rarely(0.4, [0, 1, 1, 50, 1000, 5000, 300_000]),
                 "stop_ms": self.rarely(0.3, [self.moment(start)]),
                 "fails_on": self.rarely(0.4, ["1", "a", "b", "{", "x,", "abc", "hi"]), **self.outages(),
                 "batch_fails": self.rarely(0.5, ["each", "whole", "whole"]), **self.backoff(), **self.serving(),
-                "copies": self.rarely(0.3, [1, 2, 3])}
+                "copies": self.rarely(0.3, [1, 2, 3]), **self.scaling(scaler)}
         if keys.get("batch_service") != "once" or keys["batch_fails"] == "whole":
             keys["fail_service_ms"] = self.rarely(0.4, [0, 0, 1, 100, 999, 1000, 1001, 3000])
         return keys
+
+    def scaling(self, scaler: str | None) -> dict[str, object]:
+        """Copies that go by the scaler of their queue, if it has one."""
+        if scaler is None or self.random.random() < 0.3:
+            return {}
+        return {"copies": self.rarely(0.9, [1, 2, 3, 5]), "scaler": scaler,
+                "scaler_start_ms": self.rarely(0.5, [0, 1, 500, 1000, 3000])}
 
     def outages(self) -> dict[str, object]:
         """One outage, or several that may meet, or none."""

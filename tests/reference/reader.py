@@ -7,7 +7,8 @@ from typing import Any
 from faults import Fault
 from scripts import ScriptFault, calls_of
 from settings import (ActorSettings, Bounds, ByQuantiles, Call, ConsumerSettings, Forwarding, Latency, Outage, Policy,
-                      ProducerSettings, QueueSettings, Role, Scenario, ScriptSettings, TaskSettings, Time)
+                      ProducerSettings, QueueSettings, Role, ScalerSettings, Scaling, Scenario, ScriptSettings,
+                      TaskSettings, Time)
 from tables import (MOST_DAY, MOST_TIME, Table, boolean, document_of, integer, list_of, one_of, one_or_each, one_or_more,
                     quantiles, sized_text, stretch, tables, text, weighted_group)
 
@@ -20,7 +21,14 @@ HEAD = ["name", "kind", "queue"]
 QUEUE_NUMBERS = {"visibility_s": (0, 43_200, 30), "delay_s": (0, 900, 0), "retention_s": (60, 1_209_600, 345_600),
                  "in_flight": (1, 120_000, 120_000)}
 # The keys that each consumer of version 3 may have besides.
-NEW_CONSUMER_KEYS = ["gather_ms", "stop_ms", "batch_service", "fails_on", "batch_fails", "backoff_s", "copies"]
+NEW_CONSUMER_KEYS = ["gather_ms", "stop_ms", "batch_service", "fails_on", "batch_fails", "backoff_s", "copies",
+                     "scaler"]
+# The numbers of a scaler, in the order in which they are read: their ranges and defaults. A bound may be another number.
+SCALER_NUMBERS: dict[str, tuple[int | str, int | str, int | None]] = {
+    "start_ms": (0, MOST_TIME, 0), "every_s": (1, 86_400, None), "reading_s": (0, "every_s", 0),
+    "visible_per_copy": (1, 1_000_000, None), "copies_min": (0, 1_000, 1), "copies_max": ("copies_min", 1_000, None),
+    "added_max": (1, 1_000, 1_000), "taken_max": (1, 1_000, 1_000), "cooldown_out_s": (0, 86_400, 0),
+    "cooldown_in_s": (0, 86_400, 0)}
 
 
 def script_names(source: bytes) -> list[str]:
@@ -158,15 +166,18 @@ class Reader:
     # Actors.
     def actor(self, table: Table) -> ActorSettings:
         name = self.name(table, AGENT_NAME)
-        kind = table.required("kind", one_of("script", "producer", "consumer"))
+        newer = ["scaler"] if self.version == 3 else []
+        kind = table.required("kind", one_of("script", "producer", "consumer", *newer))
         home = table.required("queue", self.queue_named)
         if kind == "script":
             return ActorSettings(name, home, self.script(table, home))
         if kind == "producer":
             return ActorSettings(name, home, self.producer(table, self.queues[home].is_fifo))
+        if kind == "scaler":
+            return ActorSettings(name, home, self.scaler(table))
         consumer = self.consumer(table, home)
         if self.version == 3:
-            self.read_new_keys(table, consumer)
+            self.read_new_keys(table, consumer, home)
             consumer.copies = table.maybe("copies", integer(1, 1_000))
             self.judge_copies(table.place("copies"), name, consumer.copies or 0)
         return ActorSettings(name, home, consumer)
@@ -242,9 +253,10 @@ class Reader:
             table.required("forward", kin)]
         return Forwarding(queues, self.latency(table))
 
-    def read_new_keys(self, table: Table, consumer: ConsumerSettings) -> None:
+    def read_new_keys(self, table: Table, consumer: ConsumerSettings, home: int) -> None:
         """What version 3 has besides, but for the copies."""
         consumer.stop = self.stop(table, consumer.start)
+        consumer.scaling = self.scaling(table, home)
         consumer.fails_on = table.maybe("fails_on", sized_text(1, 128))
         consumer.outages = outages(table)
         consumer.is_whole = table.optional("batch_fails", one_of("each", "whole"), "each") == "whole"
@@ -252,6 +264,29 @@ class Reader:
         consumer.has_jitter = table.optional("backoff_jitter", one_of("none", "full"), "none") == "full"
         seconds = table.maybe("heartbeat_s", integer(1, 43_200))
         consumer.heartbeat = seconds and 1000 * seconds
+
+    def scaling(self, table: Table, home: int) -> Scaling | None:
+        """The scaler by which the copies of a consumer go: the first actor of that name, kind and home, as the texts
+        say."""
+        def number(value: Any, place: str) -> int:
+            wanted = [text(value, place), "scaler", self.queues[home].name]
+            for index, item in enumerate(self.actor_items):
+                if isinstance(item, dict) and [text_in(item, key) for key in HEAD] == wanted:
+                    return len(self.queue_items) + index
+            raise Fault(17, place)
+
+        if not table.has("scaler"):
+            return None
+        return Scaling(table.required("scaler", number), table.optional("scaler_start_ms", integer(0, MOST_DAY), 0))
+
+    def scaler(self, table: Table) -> ScalerSettings:
+        table.only([*HEAD, *SCALER_NUMBERS])
+        found: dict[str, int] = {}
+        for key, (low, high, default) in SCALER_NUMBERS.items():
+            least = found[low] if isinstance(low, str) else low
+            type_of = integer(least, found[high] - 1 if isinstance(high, str) else high)
+            found[key] = table.required(key, type_of) if default is None else table.optional(key, type_of, default)
+        return ScalerSettings(*(1000 * value if key.endswith("_s") else value for key, value in found.items()))
 
     def judge_copies(self, place: str, name: str, copies: int) -> None:
         names = copy_names(name, copies)
@@ -287,6 +322,12 @@ def table_of(key: str, number: int, item: Any) -> Table:
     return Table(item, f"{place}.")
 
 
+def text_in(item: dict[str, Any], key: str) -> str:
+    """The text at a key, or an empty one."""
+    value = item.get(key)
+    return value if isinstance(value, str) else ""
+
+
 def new_consumer_keys(table: Table) -> list[str]:
     """The keys that a consumer of version 3 may have besides. Some are known by the presence of others alone, and one
     by what they say."""
@@ -296,6 +337,7 @@ def new_consumer_keys(table: Table) -> list[str]:
     elif table.has("fails_from_ms"):
         outage = ["fails_from_ms", "fails_to_ms", "fails_permille"]
     return [*NEW_CONSUMER_KEYS, "service_each_ms" if table.has("batch_service") else "heartbeat_s", *outage,
+            *(["scaler_start_ms"] if table.has("scaler") else []),
             *(["backoff_jitter"] if table.has("backoff_s") else []),
             *(["fail_service_ms"] if has_one_outcome(table) else [])]
 
@@ -335,7 +377,7 @@ def copied(actors: list[ActorSettings]) -> list[ActorSettings]:
     for actor in actors:
         copies = actor.role.copies if isinstance(actor.role, ConsumerSettings) else None
         names = [actor.name] if copies is None else copy_names(actor.name, copies)
-        first, *more = (replace(actor, name=name) for name in names)
+        first, *more = (replace(actor, name=name, place=place) for place, name in enumerate(names))
         firsts.append(first)
         others += more
     return firsts + others

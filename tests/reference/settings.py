@@ -124,6 +124,36 @@ class Outage:
 
 
 @dataclass
+class ScalerSettings:
+    """A scaler reads, every so often, how many messages are visible, and decides by that, at once or after `reading`,
+    how many copies ask."""
+
+    start: int
+    every: int
+    reading: int
+    visible_per_copy: int
+    copies_min: int
+    copies_max: int
+    added_max: int
+    taken_max: int
+    cooldown_out: int
+    cooldown_in: int
+
+    def wanted(self, visible: int) -> int:
+        """How many copies there ought to be for so many visible messages: one for each `visible_per_copy`, in its
+        bounds."""
+        return min(self.copies_max, max(self.copies_min, -(-visible // self.visible_per_copy)))
+
+
+@dataclass
+class Scaling:
+    """The scaler of a consumer, by its number, and how long a copy takes that starts."""
+
+    scaler: int
+    start: int
+
+
+@dataclass
 class ConsumerSettings:
     """The time of a service is of one message if `each_ms` is None. Else it is of a whole batch, and grows by so much
     with each of its messages. With `fail_service` a service that fails takes this time, and its begin decides that."""
@@ -147,6 +177,7 @@ class ConsumerSettings:
     has_jitter: bool = False
     heartbeat: int | None = None
     copies: int | None = None
+    scaling: Scaling | None = None
 
     def fail_permille_at(self, moment: int) -> int:
         """Of a thousand services that are decided at a moment how many fail: by the first outage that it is in, if it
@@ -154,14 +185,17 @@ class ConsumerSettings:
         return next((outage.fail_permille for outage in self.outages if moment in outage.time), self.fail_permille)
 
 
-Role = ScriptSettings | ProducerSettings | ConsumerSettings
+Role = ScriptSettings | ProducerSettings | ConsumerSettings | ScalerSettings
 
 
 @dataclass
 class ActorSettings:
+    """The place is that among its copies, from 0 on."""
+
     name: str
     home: int
     role: Role
+    place: int = 0
 
 
 @dataclass

@@ -4,7 +4,7 @@ from collections.abc import Iterator
 from dataclasses import dataclass, replace
 from typing import NamedTuple
 
-from actors import Actor, actor_of
+from actors import Actor, Scaler, actor_of
 from faults import Refused
 from log import md5
 from queues import BAD_TIMEOUT, LONGEST_TIMEOUT_S, OVER_LIMIT, Load, Message, Place, Queue, origin_text
@@ -199,6 +199,14 @@ class Site:
     # Calls of actors.
     def visibility_s(self) -> int:
         return self.queue.settings.visibility_s
+
+    def visible(self) -> int:
+        return self.queue.count(Place.VISIBLE)
+
+    def scaler(self, agent: int) -> Scaler:
+        scaler = self.actors[agent]
+        assert isinstance(scaler, Scaler)
+        return scaler
 
     def send(self, agent: int, body: str, group: str | None, id: str | None, delay_s: int | None) -> None:
         try:

@@ -14,12 +14,13 @@ SOURCES = os.path.join(ROOT, "crates", "sim_scenario", "src")
 FUNCTION = re.compile(r"\n( *)(?:pub(?:\(crate\))? )?fn (\w+).*?\n\1}|\nimpl[^\n]* for (\w+)", re.DOTALL)
 # A key that is read, or a function of the reader that reads others.
 READ = re.compile(
-    r'section\s*\.(required|optional|maybe)\(\s*"(\w+)",\s*&(\w+)(?:\(([^)]*)\)|\s*{[^}]*})?(?:,\s*([\w:]+))?,?\s*\)|'
+    r'section\s*\.(required|optional|maybe)\(\s*"(\w+)",\s*&(\w+)(?:\(((?:[^()]|\([^()]*\))*)\)|\s*{[^}]*})?(?:,\s*([\w:]+))?,?\s*\)|'
     r'section\s*\.(bounds)\(\s*"(\w+)",\s*"(\w+)",\s*([\d_]+)|'
     r'section\s*\.(required_list)\("(\w+)"\)|'
     r'(agent_list)\([^"()]*(?:\(\))?[^"()]*"(\w+)"\)|'
     r'\btime\(\s*"(\w+)",\s*"(\w+)",\s*"(\w+)",\s*section,?\s*\)|'
-    r'\b(queue_list|kind|policy|latency|sending|forward|calls|stopping|failing|serving|outages|'
+    r'\b(queue_list|kind|policy|latency|sending|forward|calls|stopping|scaling|failing|serving|'
+    r'outages|'
     r'stretches_by|one_stretch|groups)\(')
 # What the two bounds of a time have at most, and how many items a list has.
 TIME = re.compile(r'section\.bounds\(low, high, ([\d_]+)\)')
@@ -28,10 +29,10 @@ ITEMS_IN = re.compile(r'list_of\(section, value, key, ([\d_]+), ([\d_]+), &\w+\)
 CHANCES = re.compile(r'fn one_for_all.*?Integer\(([\d_]+), ([\d_]+)\).*?unwrap_or\(([\d_]+)\)', re.DOTALL)
 LIST = re.compile(r'(?:_KEYS: &\[&str\] = &\[|&\[)((?:\s*"\w+",?)+)\s*\]')
 # The words of each list that a key's value may be one of.
-WORDS = {"SCOPES": ("queue", "group"), "KINDS": ("script", "producer", "consumer"), "FAILURES": ("each", "whole"),
+WORDS = {"SCOPES": ("queue", "group"), "kinds": ("script", "producer", "consumer", "scaler"), "FAILURES": ("each", "whole"),
          "SERVINGS": ("each", "once"), "JITTERS": ("none", "full")}
 # The keys whose values are the least values of others, by their names in the code; each may be 0.
-LEAST = {"start": "start_ms", "from": "fails_from_ms"}
+LEAST = {"start": "start_ms", "from": "fails_from_ms", "least": "copies_min"}
 # The types of values that are lists, by what the tables call them, with the files that read them.
 LISTS_OF = {"WeightedGroups": (WEIGHTS, "groups.rt"), "Stretches": (STRETCHES, "outages.rt"),
             "KinQueues": (TEXT_OR_TEXTS, "named.rt")}
@@ -86,7 +87,7 @@ def key_of(how: str, name: str, type_: str, bounds: str | None, text: str | None
         return Key(name, NUMBERS, numbers[0], numbers[1])
     if type_ == "SizedText":
         return Key(name, TEXT, numbers[0], numbers[1], default)
-    if type_ not in ("Integer", "Seconds"):
+    if type_ not in ("Integer", "Count", "Seconds"):
         return Key(name, TEXT, default=default, words=WORDS.get(words[0]))
     least = LEAST.get(words[0])
     return Key(name, NUMBER, 0 if least else numbers[0], numbers[1], default, least=least)

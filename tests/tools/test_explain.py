@@ -91,6 +91,7 @@ NEW = TOP.replace("version = 1", "version = 3") + '[[queue]]\nname = "orders"\n[
 SERVED = NEW + "service_min_ms = 1\nservice_max_ms = 1\n"
 SENT = NEW[:NEW.index("[[actor]]")] + '[[actor]]\nname = "shop"\nkind = "producer"\nqueue = "orders"\ncount = 1\n' \
     'gap_min_ms = 1\ngap_max_ms = 1\nbody = "m"\n'
+SCALER = '[[actor]]\nname = "crew"\nkind = "scaler"\nqueue = "orders"\nevery_s = 60\nvisible_per_copy = 5\ncopies_max = 4\n'
 PAIR = "It is a pair [permille, ms]. The first permille is 0 and the last 1,000; each other one is greater than the " \
     "one before it, and at most 999. Times have 1 to 86,400,000, and none is less than the one before it."
 REASONS_OF_3 = (
@@ -157,6 +158,23 @@ REASONS_OF_3 = (
      "it is a list."),
     (SERVED.replace("= 3\n", "= 2\n", 1) + 'forward = ["orders"]\n', "13 WrongType at actor[0].forward", "11:11",
      "forward of the consumer packer is a list, which is of version 3."),
+    (SERVED + 'scaler = "crow"\n' + SCALER, "17 UnknownQueue at actor[0].scaler", "11:10",
+     'scaler of the consumer packer is crow, and no actor with kind = "scaler" at its queue has this name. Did you mean '
+     "crew?"),
+    (SERVED + "scaler_start_ms = 5\n", "11 UnknownKey at actor[0].scaler_start_ms", "11:1",
+     "scaler_start_ms stands only together with scaler, which the consumer packer does not have."),
+    (SERVED + SCALER + "reading_s = 60\n", "14 OutOfRange at actor[1].reading_s", "18:13",
+     "reading_s of the scaler crew is 60. It has 0 to 59, since it is less than every_s."),
+    (SERVED + SCALER.replace("max = 4", "max = 0"), "14 OutOfRange at actor[1].copies_max", "17:14",
+     "copies_max of the scaler crew is 0. It may not be less than copies_min, which is 1."),
+    (SERVED + SCALER.replace("max = 4", "max = 1001") + "copies_min = 7\n", "14 OutOfRange at actor[1].copies_max", "17:14",
+     "copies_max of the scaler crew is 1001. It has 7 to 1,000, as copies_min is 7."),
+    (SERVED + SCALER + "copies = 3\n", "11 UnknownKey at actor[1].copies", "18:1",
+     "copies is a key of a consumer, and the scaler crew is none."),
+    (SERVED.replace("= 3\n", "= 2\n", 1) + SCALER, "14 OutOfRange at actor[1].kind", "13:8",
+     "kind of the scaler crew is scaler. A scaler is an actor of version 3."),
+    (SERVED + SCALER.replace('"scaler"', '"scaller"'), "14 OutOfRange at actor[1].kind", "13:8",
+     "kind of the actor crew is scaller. It is script, producer, consumer or scaler. Did you mean scaler?"),
     (SERVED + "fails_permille = 5\n", "11 UnknownKey at actor[0].fails_permille", "11:1",
      "fails_permille stands only together with fails_from_ms or fails_between_ms, which the consumer packer does not "
      "have."),
@@ -236,6 +254,12 @@ LOADS = (
     ([EACH_200_MS, ("p", "consumer", "copies = 4\nservice_min_ms = 100\nservice_max_ms = 300\nfail_permille = 100\n"
                                      "fail_service_ms = 3000\n")],
      [SENT_TO.format("5.00"), BUSY.format("p", "480.0", "4 consumers", "60.0")]),
+    # of five copies a scaler lets two ask; of others it lets none
+    ([EACH_200_MS, ("x", "scaler", "every_s = 1\nvisible_per_copy = 1\ncopies_max = 2\n"),
+      ("y", "scaler", "every_s = 1\nvisible_per_copy = 1\ncopies_min = 0\ncopies_max = 0\n"),
+      ("q", "consumer", 'scaler = "y"\nservice_min_ms = 1\nservice_max_ms = 1\n'),
+      ("p", "consumer", 'copies = 5\nscaler = "x"\nservice_min_ms = 100\nservice_max_ms = 300\n')],
+     [SENT_TO.format("5.00"), BUSY.format("p", "200.0", "at most 2 consumers", "50.0")]),
     # of a batch of ten in 300 ms half of all services end as a whole in 100 ms
     ([EACH_200_MS, ("p", "consumer", 'batch = 10\nservice_min_ms = 200\nservice_max_ms = 200\nservice_each_ms = 10\n'
                                      'batch_service = "once"\nfail_service_ms = 100\nfail_permille = 500\n'

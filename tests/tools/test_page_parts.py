@@ -303,10 +303,12 @@ class Parts(ToolCase):
                               table("actor", name="w-2", kind="consumer", queue="a", forward="b", copies=2),
                               table("actor", name="topic", kind="consumer", queue="d", forward=["a", "none", "b", "a"]),
                               table("actor", name="lost", kind="consumer", queue="none"),
+                              table("actor", name="x", kind="scaler", queue="b"),
                               table("actor", kind="producer", queue="a"), task("t", "d")]))
         self.assertEqual(told, [
             [["a", "queue", "a"], ["d", "dead", "d"], ["b", "queue", "b"], ["producer a ", "producer", "p"],
-             ["consumer a b", "consumer", "w × 3"], ["consumer d a none b a", "consumer", "topic"], ["task t", "task", "t"]],
+             ["consumer a b", "consumer", "w × 3"], ["consumer d a none b a", "consumer", "topic"], ["scaler b ", "scaler", "x"],
+             ["task t", "task", "t"]],
             [["a", "d", "dead", "a", "a", "redrive,out"], ["b", "b", "dead", "b", "b", "redrive,out"],
              ["producer a ", "a", "send", "a", "p", "send,new"],
              ["a", "consumer a b", "receive", "a", "w-1,w-2-1,w-2-2", "receive,ok"],
@@ -314,6 +316,7 @@ class Parts(ToolCase):
              ["d", "consumer d a none b a", "receive", "d", "topic", "receive,ok"],
              ["consumer d a none b a", "a", "forward", "d", "topic", "forward,out", 0.5],
              ["consumer d a none b a", "b", "forward", "d", "topic", "forward,out", 0.25],
+             ["b", "scaler b ", "scale", "b", "x", "scale,ok"],
              ["d", "task t", "move", "d", "t", "move,out"], ["task t", "a", "move", "d", "t", "move,out"]]])
 
     def test_numbers_at_moments(self) -> None:

@@ -9,8 +9,8 @@ import unittest
 from tool import HEADER, ROOT, ToolCase, ended, module_of, needs_program, row_of, text_at
 from rehearse_tools.console import Fault, library
 from rehearse_tools.logs import Log
-from rehearse_tools.histories import (PLACES, Course, Histories, History, ages_in, counts_in, course_of, levels,
-                                      oldest)
+from rehearse_tools.histories import (PLACES, Course, Histories, History, ages_in, copies_levels, counts_in, course_of,
+                                      levels, oldest)
 from rehearse_tools.replay import BadRow
 
 try:
@@ -58,6 +58,16 @@ class Counts(ToolCase):
         self.assertEqual((list(a.deleted_at), list(a.ages), list(a.redrives)), ([2500], [2500], [6000]))
         self.assertEqual((a.counts(), a.peak, a.peak_at), ("2 came in, 1 deleted, 1 redriven, 0 left", 2, 5))
         self.assertEqual(pairs(levels(d, visible, 0, 6020)), [(0, 0), (6020, 1), (6020, 1)])
+
+    def test_copies_of_a_scaler(self):
+        queue = History("q")
+        for at, detail in ((5, "1/4"), (9, "4/2"), (9, "2/3")):
+            queue.scaled(*row_of(at, "", detail))
+        told, = queue.copies.values()
+        self.assertEqual(pairs(copies_levels(*told, 0, 20)), [(0, 1), (5, 4), (9, 2), (9, 3), (20, 3)])
+        self.assertEqual(pairs(copies_levels(*told, 6, 8)), [(6, 4), (8, 4)])
+        self.assertEqual(pairs(copies_levels(*told, 5, 5)), [(5, 4), (5, 4)])
+        self.assertRaises(BadRow, queue.scaled, *row_of(9, "", "3"))
 
     def test_the_oldest_message(self):
         """m-0-0 is the oldest until it is deleted at 2,500 ms; then it is m-0-1, which came at 5, until 6,000."""

@@ -34,6 +34,8 @@ PRODUCER = HEAD + '[[actor]]\nname = "p"\nkind = "producer"\nqueue = "q"\ncount 
 SENT = PRODUCER + "gap_min_ms = 1\ngap_max_ms = 1\n"
 SENT_FIFO = SENT.replace('queue = "q"\ncount', 'queue = "f.fifo"\ncount')
 ANOTHER = SERVED[len(HEAD):]
+SCALER = HEAD + '[[actor]]\nname = "x"\nkind = "scaler"\nqueue = "q"\n'
+SCALED = SCALER + "every_s = 60\nvisible_per_copy = 1\ncopies_max = 2\n"
 BOUNDS = re.compile(r"(gap|service)_min_ms = (\d+)\n\1_max_ms = (\d+)\n")
 BETWEEN = re.compile(r"(fails_between_ms = .*\nfails_permille = )(\d+)\n")
 # Keys that change nothing: what they name does not occur.
@@ -129,6 +131,29 @@ FAULTS = [
     (PRODUCER, "", "12 MissingKey at actor[0].gap_min_ms"),
     (SENT, "gap = []", "11 UnknownKey at actor[0].gap_max_ms"),
     (PRODUCER, "gap = [[0, 1], [1000, 0]]", "14 OutOfRange at actor[0].gap[1]"),
+    (SCALER, "", "12 MissingKey at actor[0].every_s"),
+    (SCALED, "start_ms = 2592000000\nreading_s = 59\ncopies_min = 2\nadded_max = 1\ntaken_max = 1000\n"
+             "cooldown_in_s = 86400", ""),
+    (SCALED, "reading_s = 60\ncopies_min = 3", "14 OutOfRange at actor[0].reading_s"),
+    (SCALED, "copies_min = 3\nadded_max = 0", "14 OutOfRange at actor[0].copies_max"),
+    (SCALED, "copies_min = 1001", "14 OutOfRange at actor[0].copies_min"),
+    (SCALED, "added_max = 0\ntaken_max = 0", "14 OutOfRange at actor[0].added_max"),
+    (SCALED, "taken_max = 1001\ncooldown_out_s = -1", "14 OutOfRange at actor[0].taken_max"),
+    (SCALED, "cooldown_out_s = 86401\ncooldown_in_s = true", "14 OutOfRange at actor[0].cooldown_out_s"),
+    (SCALED, 'cooldown_in_s = "5"', "13 WrongType at actor[0].cooldown_in_s"),
+    (SCALED, "copies = 1\ntimeout_s = 5", "11 UnknownKey at actor[0].copies"),
+    (SCALED.replace("every_s = 60", "every_s = 0"), "visible_per_copy = 0", "10 NotToml"),
+    (SCALED.replace("every_s = 60", "every_s = 86401"), "reading_s = 86401", "14 OutOfRange at actor[0].every_s"),
+    (SCALED.replace("= 1\n", "= 1000001\n", 1), "copies_min = -1", "14 OutOfRange at actor[0].visible_per_copy"),
+    (SCALED.replace("= 3\n", "= 2\n", 1), "copies = 0", "14 OutOfRange at actor[0].kind"),
+    (SCALED, ANOTHER + 'scaler = "x"\nscaler_start_ms = 86400000\ncopies = 1000', ""),
+    (SERVED, 'scaler = "x"\n' + SCALED[len(HEAD):], ""),
+    (SERVED, 'scaler = "x"\n' + SCALED[len(HEAD):].replace('"q"', '"w-1"'), "17 UnknownQueue at actor[0].scaler"),
+    (SERVED, 'scaler = "c"', "17 UnknownQueue at actor[0].scaler"),
+    (SERVED, 'scaler = ["x"]\nstop_ms = 9\nfails_on = ""', "13 WrongType at actor[0].scaler"),
+    (SERVED, "scaler_start_ms = 0", "11 UnknownKey at actor[0].scaler_start_ms"),
+    (SERVED, 'scaler = "x"\nscaler_start_ms = -1\n' + SCALED[len(HEAD):], "14 OutOfRange at actor[0].scaler_start_ms"),
+    (SENT, 'scaler = "x"', "11 UnknownKey at actor[0].scaler"),
     (SENT_FIFO, f"key_groups = {[['g', 1]] * 100}", ""),
     (SENT_FIFO, 'key_groups = [["g", 1]]\nids = 1\nstop_ms = 1', "13 WrongType at actor[0].ids"),
 ]
@@ -156,10 +181,11 @@ def with_neutral_keys(text):
     return text.replace("version = 2\n", "version = 3\n")
 
 
-def random_texts(profile):
-    """Random scenarios of a profile, each with what the reference answers, without those that run long."""
+def random_texts(profile, without=()):
+    """Random scenarios of a profile without some keys, each with what the reference answers, but for those that run
+    long."""
     for seed in SEEDS:
-        source = scenario_text(profile, seed).encode("utf-8")
+        source = scenario_text(profile, seed, without).encode("utf-8")
         try:
             yield seed, source, referred(source, PROFILES[profile][0], MOST_HANDLINGS)
         except TooLong:
@@ -294,6 +320,23 @@ class VersionThree(unittest.TestCase):
                 changed += text != source.decode("utf-8")
                 self.assertEqual(first_difference(wanted, referred(text.encode("utf-8"), 3)), "")
         self.assertGreater(changed, 5)
+
+    def test_a_scaler_that_always_wants_one_copy_changes_nothing(self):
+        scaled = 0
+        for seed, source, wanted in random_texts("version-3", ["copies", "scaler"]):
+            text = source.decode("utf-8")
+            homes = re.findall('kind = "consumer"\nqueue = "(.*)"\n', text)
+            if "[[task]]" in text or not homes:
+                continue
+            text = re.sub('kind = "consumer"\nqueue = "(.*)"\n',
+                          lambda it: f'{it[0]}scaler = "x{homes.index(it[1])}"\nscaler_start_ms = 700\n', text)
+            for number, home in enumerate(homes):
+                always_one = SCALED[len(HEAD):].replace("= 2", "= 1")
+                text += always_one.replace('"x"', f'"x{number}"').replace('"q"', f'"{home}"')
+            with self.subTest(seed=seed):
+                self.assertEqual(first_difference(wanted, referred(text.encode("utf-8"), 3)), "")
+            scaled += 1
+        self.assertGreater(scaled, 5)
 
     def test_a_batch_of_one_fails_as_a_whole_or_each(self):
         for seed, source, _ in random_texts("version-3"):

@@ -121,8 +121,8 @@ class Rows(ToolCase):
                     self.assertRaisesRegex(Fault, "line 2 is no row of a log", self.queues_of, row + "\n", kind=Checked)
 
     def test_the_kinds_of_rows(self) -> None:
-        """As docs/FORMATS.md has them: 22 kinds, and each of the 9 refusals of each of 6 calls."""
-        self.assertEqual(len(KINDS), 22 + 6 * 9)
+        """As docs/FORMATS.md has them: 23 kinds, and each of the 9 refusals of each of 6 calls."""
+        self.assertEqual(len(KINDS), 23 + 6 * 9)
 
 
 class PlacesOfMessages(ToolCase):

@@ -9,8 +9,9 @@ from code_keys import code_keys, constant, listed_keys
 from tool import ROOT, text_at
 from rehearse_tools.console import Fault, library, toml_of
 from rehearse_tools.keys import (CONSUMER, FIFO, HEAD, ITEMS, NUMBER, NUMBER_OR_NUMBERS, NUMBERS, PREVIEW, PRODUCER,
-                                 QUANTILES, QUEUE, REQUIRED, SCRIPT, STANDARD, STRETCHES, TABLES, TASK, TEXT,
-                                 TEXT_OR_TEXTS, TOP, TRUTH, VERSIONS, WEIGHTS, consumer_keys, keys_of, latency)
+                                 QUANTILES, QUEUE, REQUIRED, SCALER, SCRIPT, STANDARD, STRETCHES, TABLES, TASK, TEXT,
+                                 TEXT_OR_TEXTS, TOP, TRUTH, VERSIONS, WEIGHTS, consumer_keys, keys_of, kinds_of,
+                                 latency)
 from stored_cases import REFUSED, RUNNING, stored
 
 try:
@@ -21,23 +22,29 @@ except Fault:
 UNSAID = re.compile(r"refused (?:10 NotToml|(?:15|19) .*\.copies|16 .*|17 .*|18 .*|20 .*|12 MissingKey at .*\.script|"
                     r"11 UnknownKey at .*\.fail_service_ms|"
                     r"14 OutOfRange at (?:version|.*\.(?:gap_max_ms|service_max_ms|latency_max_ms|sampled|body|stop_ms|"
-                    r"fails_on|fails_to_ms|fails_permille|(?:gap|service|fails_between_ms)\[[0-9]+\])))\n")
+                    r"fails_on|fails_to_ms|fails_permille|reading_s|copies_max|(?:gap|service|fails_between_ms)\[[0-9]+\])))\n")
 with open(os.path.join(ROOT, "docs", "scenario.schema.json"), encoding="utf-8") as schema_file:
     SCHEMA = json.load(schema_file)
 # The tables of keys in docs/FORMATS.md, by the first cell of their heads.
 DOCUMENTED = {"Top": TOP, "queue": QUEUE, "actor": HEAD, "script": SCRIPT[len(HEAD):], "producer": PRODUCER[len(HEAD):],
-              "consumer": CONSUMER[len(HEAD):], "task": TASK, "latency": latency(1) + latency(2)}
+              "consumer": CONSUMER[len(HEAD):], "scaler": SCALER[len(HEAD):], "task": TASK,
+              "latency": latency(1) + latency(2)}
 # The functions of the reader that read these tables, by the files that they and the lists of known keys stand in.
 LATENCY = latency(1) + latency(2)
 CODE = {("top.rt", "top_table"): TOP, ("queues.rt", "Queues::read"): QUEUE + LATENCY, ("actors.rt", "Actors::read"): HEAD,
         ("scripted.rt", "scripted"): SCRIPT[len(HEAD):], ("producers.rt", "producer"): PRODUCER[len(HEAD):],
-        ("consumers.rt", "consumer"): consumer_keys(LATENCY)[len(HEAD):], ("tasks.rt", "Tasks::read"): TASK + LATENCY}
+        ("consumers.rt", "consumer"): consumer_keys(LATENCY)[len(HEAD):],
+        ("scalers.rt", "scaler"): SCALER[len(HEAD):], ("tasks.rt", "Tasks::read"): TASK + LATENCY}
 LISTS = {"top.rt": TOP, "queues.rt": QUEUE + LATENCY, "section.rt": HEAD, "scripted.rt": SCRIPT[len(HEAD):],
-         "producers.rt": PRODUCER[len(HEAD):], "consumers.rt": CONSUMER[len(HEAD):], "tasks.rt": TASK}
+         "producers.rt": PRODUCER[len(HEAD):], "consumers.rt": CONSUMER[len(HEAD):],
+         "scalers.rt": SCALER[len(HEAD):], "tasks.rt": TASK}
 # What a file leaves to others of its lists.
 LISTED = {"consumers.rt": ["outages.rt"]}
 # These are read only where they are there, so that they are required then.
-WHERE_THERE = {"calls", "script", "dead_letter", "forward", "fails_between_ms", "fails_from_ms", "key_groups"}
+WHERE_THERE = {"calls", "script", "dead_letter", "forward", "fails_between_ms", "fails_from_ms", "key_groups",
+               "scaler"}
+# The greatest values that other keys of their tables give, which the code has not as numbers.
+GREATEST = {"sampled": "hosts", "reading_s": "every_s - 1"}
 # A key that is read apart from the others of its table, by another function: behind what its actor does.
 APART = {("consumers.rt", "consumer"): ("actors.rt", "copies")}
 
@@ -100,8 +107,7 @@ class Documents(unittest.TestCase):
             if key.name == "version":
                 return ", ".join(map(str, VERSIONS))
             low = key.least or f"{key.low:,}"
-            high = "hosts" if key.name == "sampled" else f"{key.high:,}"
-            return f"{low}..{high}"
+            return f"{low}..{GREATEST.get(key.name) or f'{key.high:,}'}"
         if key.kind == NUMBERS:
             low, high = ITEMS[key.name]
             return f"{key.low}..{key.high} numbers, each {low}..{high:,}"
@@ -155,7 +161,7 @@ class Documents(unittest.TestCase):
                          "hosts" if key.name == "sampled" else default)
         if key.kind not in (TEXT, TRUTH, TABLES) or key.name == "fails_on":
             self.assertEqual((found.low, found.high),
-                             (key.low, None if key.name in ("sampled", "version") else key.high))
+                             (key.low, None if key.name in ("version", *GREATEST) else key.high))
         self.assertEqual((found.words, found.least), (key.words, key.least))
 
     def test_code_lists_the_same_keys(self):
@@ -167,7 +173,8 @@ class Documents(unittest.TestCase):
         self.assertEqual(VERSIONS[-1], PREVIEW)
 
     def test_schema_has_the_same_keys(self):
-        tables = {"queue": QUEUE, "script": SCRIPT, "producer": PRODUCER, "consumer": CONSUMER, "task": TASK}
+        tables = {"queue": QUEUE, "script": SCRIPT, "producer": PRODUCER, "consumer": CONSUMER, "scaler": SCALER,
+                  "task": TASK}
         for name, keys in tables.items():
             found = SCHEMA["definitions"][name]["properties"]
             more = latency(1) + latency(2) if name in ("queue", "consumer", "task") else []
@@ -178,9 +185,12 @@ class Documents(unittest.TestCase):
     def test_keys_of_version_3_alone(self):
         new = {key.name for keys in (PRODUCER, CONSUMER) for key in keys if key.since == 3}
         before = SCHEMA["definitions"]["before_version_3_actor"]["properties"]
-        self.assertEqual(before, {**dict.fromkeys(new, False), "forward": {"type": "string"}})
-        for kind in ("script", "producer", "consumer"):
+        kinds = ["script", "producer", "consumer"]
+        self.assertEqual(before, {**dict.fromkeys(new, False), "forward": {"type": "string"}, "kind": {"enum": kinds}})
+        self.assertEqual([kinds_of(version) for version in VERSIONS], [kinds, kinds, [*kinds, "scaler"]])
+        for kind in kinds:
             self.assertFalse(new & {key.name for key in keys_of("actor", kind, 2)})
+        self.assertEqual([key.name for key in keys_of("actor", "scaler", 2)], [key.name for key in HEAD])
 
     def check_properties(self, found, keys):
         for key in keys:

@@ -434,8 +434,10 @@ def poisson(chance: random.Random, rate: float, count: int) -> Iterator[int]:
 class Queues(ToolCase):
     """The program's own queues, whose laws are known. A consumer serves for `service` and asks again 1 ms later."""
 
-    def run_queue(self, moments: list[int], service: int, consumers: int, log: bool = False) -> str:
-        """What the program prints of one queue with messages sent at these moments, one at most a millisecond."""
+    def run_queue(self, moments: list[int], service: int, consumers: int, log: bool = False,
+                  scaled: bool = False) -> str:
+        """What the program prints of one queue with messages sent at these moments, one at most a millisecond. Consumers
+        that are scaled are three more, of which a scaler always lets so many ask."""
         lines, last = [SCRIPT_HEADER], -1
         for at in moments:
             last = max(at, last + 1)
@@ -444,11 +446,19 @@ class Queues(ToolCase):
         actors = "".join(f'[[actor]]\nname = "c{number}"\nkind = "consumer"\nqueue = "q"\nbatch = 1\nwait_s = 20\n'
                          f'idle_ms = 1\nservice_min_ms = {service}\nservice_max_ms = {service}\n'
                          for number in range(consumers))
-        path = self.write("s.toml", f'version = 1\nhorizon = {last + 10_000_000}\n[[queue]]\nname = "q"\n'
+        if scaled:
+            first = actors.partition("\n[[actor]]")[0]
+            actors = f'{first}\nscaler = "x"\ncopies = {consumers + 3}\n' \
+                f'[[actor]]\nname = "x"\nkind = "scaler"\nqueue = "q"\nevery_s = 60\nvisible_per_copy = 1\n' \
+                f'copies_min = {consumers}\ncopies_max = {consumers}\n'
+        version = 3 if scaled else 1
+        path = self.write("s.toml", f'version = {version}\nhorizon = {last + 10_000_000}\n[[queue]]\nname = "q"\n'
                           f'visibility_s = 3600\n[[actor]]\nname = "s"\nkind = "script"\nqueue = "q"\n'
                           f'script = "sends.csv"\n{actors}')
         words = ["--log", self.path("log.csv")] if log else ["--log", os.devnull]
-        ran = subprocess.run([PROGRAM, "run", *words, "--scripts", self.folder, path], capture_output=True, text=True)
+        preview = ["--preview"] if scaled else []
+        ran = subprocess.run([PROGRAM, "run", *preview, *words, "--scripts", self.folder, path], capture_output=True,
+                             text=True)
         self.assertEqual(ran.returncode, 0, ran.stderr)
         return ran.stdout
 
@@ -484,6 +494,11 @@ class Queues(ToolCase):
             means = [self.mean_age(self.run_queue(list(poisson(random.Random(seed), servers * load / cycle, 10_000)),
                                                   service, servers)) for seed in range(10)]
             self.assert_is(means, wait * cycle + service, 0.05)
+
+    def test_a_scaler_of_a_fixed_number_keeps_so_many_at_work(self) -> None:
+        """With equal work the report is that of so many consumers."""
+        moments = list(poisson(random.Random(1), 3 * 0.8 / 1_001, 3_000))
+        self.assertEqual(self.run_queue(moments, 1_000, 3, scaled=True), self.run_queue(moments, 1_000, 3))
 
     def test_m_m_1(self) -> None:
         """Orders in pieces of 21 ms, their number geometric with mean 20: exponential work within 2.5 %.

@@ -205,6 +205,17 @@ class Definitions(SummaryCase):
                            left_in_flight=1, left_visible_or_delayed=0, on_their_way_here=0, depth_greatest=2,
                            depth_greatest_at_ms=2600)
 
+    def test_copies_that_ask(self):
+        """Of two scalers the greatest number counts; from a moment on also what was there by then."""
+        log = HEADER + "5,q,x,scale,ok,,,1/4\n9,q,y,scale,ok,,,7/0\n20,q,x,scale,ok,,,4/2\n"
+        self.assert_values(self.queues(log)["q"], copies_changed=3, copies_greatest=7, requests=0)
+        self.assert_values(self.queues(FIFO)["f.fifo"], copies_changed=0, copies_greatest=None)
+        for first, told in (("0", "7 changed 3 times"), ("10", "4 changed 1 time")):
+            out = self.output("summary", self.write("log", f"{log}20,q,p,send,new,m-0-0,,x\n"), "--from", first)
+            self.assertEqual(re.findall("copies that ask, greatest +(.*)", out), [told])
+        self.assert_fault(self.run_tool("summary", self.write("bad", HEADER + "5,q,x,scale,ok,,,1-4\n")),
+                          f"summary: {self.path('bad')} line 2: 1-4 is no change of copies")
+
     def test_backlog_gone_and_come_again(self):
         rows = ["0,q,p,send,new,m-0-0,,x", "5,q,c,receive,ok,m-0-0,r-0-0-1,o-0-0",
                 "9,q,c,delete,deleted,m-0-0,r-0-0-1,9", "20,q,p,send,new,m-0-1,,x",

@@ -27,7 +27,8 @@ LOG_TICKS = ((1, "1 ms"), (10, "10 ms"), (100, "100 ms"), (1_000, "1 s"), (10_00
              (864_000_000, "10 days"))
 STEPS_OF_UNIT = {"s": (10, 15, 20, 30), "min": (10, 15, 20, 30), "h": (3, 6, 12, 24, 48)}
 COLOURS = {"visible": "#0072b2", "in flight": "#e69f00", "delayed": "#009e73", "redriven": "#d55e00",
-           "expired": "#111111", "middle": "#3f1f69", "95 %": "#8e63b5", "greatest": "#c51b7d", "oldest": "#8c564b"}
+           "expired": "#111111", "middle": "#3f1f69", "95 %": "#8e63b5", "greatest": "#c51b7d", "oldest": "#8c564b",
+           "copies": "#56606b"}
 GREY, ALARM = "#666666", "#b00020"
 LEFT, RIGHT, HEAD, LINE, CAPTION, FOOT = 76, 30, 34, 16, 30, 52
 # The kinds of pictures by the endings of their files.

@@ -260,9 +260,17 @@ def range_text(key: Key | None) -> str:
     return f" It has {key.low:,} to {key.high:,}{default}."
 
 
+def least_of(scenario: Scenario, key: Key | None) -> Any:
+    """The value of the key that is the least value of a key, or its default."""
+    if key is None or key.least is None:
+        return None
+    default = scenario.keys()[key.least].default if key.least in scenario.keys() else None
+    return scenario.table.get(key.least, default) if scenario.is_table else None
+
+
 def range_beside(scenario: Scenario, key: Key | None) -> str:
     """The range of a key, which begins at the value of another one where that is its least."""
-    least = scenario.value(key.least) if key and key.least else None
+    least = least_of(scenario, key)
     if not key or not isinstance(least, int) or not (key.low or 0) <= least <= (key.high or 0):
         return range_text(key)
     return f" It has {least:,} to {key.high:,}, as {key.least} is {least:,}."
@@ -335,15 +343,18 @@ def out_of_range(scenario: Scenario) -> str:
         return item_out_of_range(scenario)
     if found and (found.kind in LISTS or isinstance(value, list)):
         return wrong_length(scenario, found)
-    if key == "kind":
-        return f"{text}{range_text(found)}{nearest(value, list(ACTORS))}"
+    if key == "kind" and found and found.words:
+        return f"{text} A {value} is an actor of version {PREVIEW}." if value in ACTORS else \
+            f"{text}{range_text(found)}{nearest(value, found.words)}"
     if key == "body":
         return f"{text} It has 1 byte at least for the first message, and 1,024 at most for the last."
     if key == "script":
         return f"{text} The name of a script has 1 to 80 ASCII letters, digits, ., - and _, and no dot first."
     if key == "sampled":
         return f"{text} It has 1 to hosts, which is {scenario.value('hosts') or 1}."
-    least = scenario.value(found.least) if found and found.least else None
+    if key == "reading_s":
+        return f"{text} It has 0 to {scenario.value('every_s') - 1:,}, since it is less than every_s."
+    least = least_of(scenario, found)
     if found and isinstance(least, int) and isinstance(value, int) and value < least:
         return f"{text} It may not be less than {found.least}, which is {least:,}."
     return f"{text}{range_beside(scenario, found)}{nearest(value, found.words) if found and found.words else ''}"
@@ -394,11 +405,21 @@ def name_twice(scenario: Scenario) -> str:
     return f"The name {shown(names[0])} stands twice."
 
 
+def scalers_at(scenario: Scenario) -> list[str]:
+    """The names of the scalers at the home of an actor."""
+    return [item["name"] for item in scenario.found.get("actor", []) if isinstance(item, dict)
+            and item.get("kind") == "scaler" and item.get("queue") == scenario.value("queue")
+            and isinstance(item.get("name"), str)]
+
+
 def unknown_queue(scenario: Scenario) -> str:
     value, key = str(scenario.value_here()), scenario.key
     names = [item.get("name") for item in scenario.found.get("queue", []) if isinstance(item, dict)]
     queues = [name for name in names if isinstance(name, str)]
     title = scenario.title()
+    if key == "scaler":
+        return f"{key} of {title} is {shown(value)}, and no actor with kind = \"scaler\" at its queue has this name." \
+               f"{nearest(value, scalers_at(scenario))}"
     if value not in queues:
         return f"{scenario.what_is_here()} is {shown(value)}, and there is no queue of this name." \
                f"{nearest(value, queues)}"

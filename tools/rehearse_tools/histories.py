@@ -13,7 +13,8 @@ from typing import Any, NamedTuple
 
 from .console import Fault, library, shown
 from .logs import NUMBER, Head, Log, What
-from .replay import DELAYED, IN_FLIGHT, NOWHERE, VISIBLE, BadRow, Places, Replay, handlers_of, replay, take_finals
+from .replay import (DELAYED, IN_FLIGHT, NOWHERE, VISIBLE, BadRow, Places, Replay, copies_in, handlers_of, replay,
+                     take_finals)
 
 # A change is four times the place that a message leaves and the place that it comes to.
 PLACES = {"visible": VISIBLE, "in flight": IN_FLIGHT, "delayed": DELAYED}
@@ -45,7 +46,8 @@ class History(Places):
     `came` says when each came. `stands` has the state of each as a negative number; if it has not moved since it came,
     it has instead the index of that change in `changes`, because only a release shows that it had been delayed.
     `oldest` is the number of the oldest one that is there. `oldest_at` says when that changed, and `sinces` when the
-    new oldest one had come in.
+    new oldest one had come in. `copies` has for each scaler the moments at which it changed how many copies ask, and
+    these numbers, of which the first holds before the first moment.
     """
 
     def __init__(self, name: str) -> None:
@@ -56,6 +58,7 @@ class History(Places):
         self.oldest_at, self.sinces, self.came = (no_moments() for _ in range(3))
         self.stands: array[int] = array(PLACE)
         self.oldest = self.left = self.moves = self.peak = self.peak_at = 0
+        self.copies: dict[str, tuple[array[int], list[int]]] = {}
         self.note_time, self.note_change, self.note_age = self.times.append, self.changes.append, self.ages.append
 
     @property
@@ -134,6 +137,12 @@ class History(Places):
     def moved(self, at: int, head: Head, message: str, receipt: str, detail: str) -> None:
         self.leave(at, message)
         self.moves += 1
+
+    def scaled(self, at: int, head: Head, message: str, receipt: str, detail: str) -> None:
+        before, after = copies_in(detail)
+        times, numbers = self.copies.setdefault(head.agent, (no_moments(), [before]))
+        times.append(at)
+        numbers.append(after)
 
     def counts(self) -> str:
         """The numbers of the whole run, in words."""
@@ -225,6 +234,15 @@ def levels(queue: History, place: int, start: int, end: int) -> tuple[Any, Any]:
     return (numpy.concatenate((numpy.array([start], dtype=numpy.uint32), times[begin:stop],
                                numpy.array([end], dtype=numpy.uint32))),
             numpy.concatenate(([first], numbers[begin:stop], [last])).astype(numpy.int32))
+
+
+def copies_levels(times: "array[int]", numbers: Sequence[int], start: int, end: int) -> tuple[Any, Any]:
+    """The same of the copies that a scaler lets ask."""
+    numpy = library("numpy", "python3-numpy")
+    changed, asking = moments(times), numpy.array(numbers, dtype=numpy.int32)
+    begin, stop = numpy.searchsorted(changed, numpy.array([start, end]), side="right")
+    return (numpy.concatenate(([start], changed[begin:stop], [end])).astype(numpy.uint32),
+            numpy.concatenate((asking[begin:stop + 1], asking[stop:stop + 1])))
 
 
 class Course(NamedTuple):

@@ -69,7 +69,7 @@ def latency(version: int, beside: Sequence[str] = ()) -> list[Key]:
 ROWS = rows_of("keys")
 TOP, QUEUE, HEAD, TASK = keys_in("top"), keys_in("queue"), keys_in("actor"), keys_in("task")
 ACTORS = {kind: [*HEAD, *keys_in(kind)] for kind in HEAD[1].words or ()}
-SCRIPT, PRODUCER, CONSUMER = ACTORS["script"], ACTORS["producer"], ACTORS["consumer"]
+SCRIPT, PRODUCER, CONSUMER, SCALER = (ACTORS[kind] for kind in ("script", "producer", "consumer", "scaler"))
 # What each item of a list of numbers may be.
 ITEMS = {row["name"]: (int(low), int(high)) for row in ROWS if row["items"] for low, high in [row["items"].split()]}
 # The versions that are read, and the one that is read only for the word --preview.
@@ -95,7 +95,14 @@ def keys_of(of: str, kind: str | None, version: int) -> list[Key]:
     return [as_of(key, version) for key in keys if key.since <= version]
 
 
+def kinds_of(version: int) -> list[str]:
+    """The kinds of actors that a version has, which are those with keys of their own in it."""
+    return [kind for kind in ACTORS if any(key.since <= version for key in keys_in(kind))]
+
+
 def as_of(key: Key, version: int) -> Key:
     """A key as a version has it: a queue that may be a list of them is a text before version 3."""
+    if key == HEAD[1]:
+        return key._replace(words=tuple(kinds_of(version)))
     is_text = key.kind == TEXT_OR_TEXTS and version < PREVIEW
     return key._replace(kind=TEXT, low=None, high=None) if is_text else key

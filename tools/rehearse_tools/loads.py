@@ -3,7 +3,7 @@ from __future__ import annotations
 
 import os
 import statistics
-from collections.abc import Mapping
+from collections.abc import Mapping, Sequence
 from typing import Any
 
 from .console import read_text
@@ -53,19 +53,28 @@ def rate_of(actor: Mapping[str, Any], folder: str) -> float:
     return len(times) / (times[-1] - times[0]) if len(times) > 1 else 0
 
 
+def copies_of(consumer: Mapping[str, Any], actors: Sequence[Mapping[str, Any]]) -> int:
+    """How many copies of a consumer there are, of which a scaler lets so many ask at most."""
+    most = next((it["copies_max"] for it in actors if it["kind"] == "scaler" and it["name"] == consumer.get("scaler")),
+                consumer.get("copies", 1))
+    return min(int(consumer.get("copies", 1)), int(most))
+
+
 def lines_of_queue(scenario: Mapping[str, Any], queue: str, folder: str) -> list[str]:
     """What the consumers of a queue have to do, if it has some."""
     actors = [actor for actor in items_of(scenario, "actor") if actor["queue"] == queue]
-    consumers = [actor for actor in actors if actor["kind"] == "consumer"]
+    consumers = [actor for actor in actors if actor["kind"] == "consumer" and copies_of(actor, actors)]
     if not consumers:
         return []
-    rate, count = sum(rate_of(actor, folder) for actor in actors), sum(it.get("copies", 1) for it in consumers)
-    load = 100 * rate / sum(it.get("copies", 1) * size_of_service(it) / mean_service(it) for it in consumers)
+    rate, copies = sum(rate_of(actor, folder) for actor in actors), [copies_of(it, actors) for it in consumers]
+    load = 100 * rate / sum(number * size_of_service(it) / mean_service(it) for number, it in zip(copies, consumers))
+    most = "at most " if any("scaler" in consumer for consumer in consumers) else ""
+    count = sum(copies)
     others = sorted({start for start, to in ways_of(scenario) if to == queue})
     lines = [f"{queue}: {1_000 * rate:,.2f} messages a second are sent"
              + (f", and what comes from {', '.join(others)} is left out" if others else "")]
     lines += [f"{consumer['name']}: {text_of_service(consumer)}; the load of the "
-              f"{f'{count} consumers' if count > 1 else 'only consumer'} of {queue} is {load:,.1f} %"
+              f"{f'{most}{count} consumers' if count > 1 else 'only consumer'} of {queue} is {load:,.1f} %"
               for consumer in consumers]
     if load > HIGH:
         lines.append(f"{queue}: over {FULL} %, so it grows without end while messages come like this"

@@ -7,7 +7,7 @@
 
 For each queue it draws how many messages are visible, in flight and delayed over time. It draws the middle, 95 % and
 greatest age of messages when they were deleted, in steps, if any were; and the age of the oldest message in the queue.
-Bars show how many messages left for the dead-letter queue or expired. A part that has nothing to show is left out, and
+If a scaler changed how many copies of consumers ask, it draws that number. Bars show how many messages left for the dead-letter queue or expired. A part that has nothing to show is left out, and
 a note says so; the top says how many messages expired in which queue. LOG is a file made by `run --log`, and REST.out
 what that run prints; or LOG is what `run` prints without --log; - is standard input. A log without a report is that of
 a run that was ended: it is refused if it comes by standard input, and of a file the picture says that the end was not
@@ -55,8 +55,8 @@ from .console import Fault, Parser, check_library, check_output, check_title, li
 from .curves import sweep_picture
 from .drawing import (ALARM, CAPTION, COLOURS, FOOT, FORMATS, GREY, LEFT, LINE, RIGHT, Sheet, bytes_of, head_of,
                       letters_without_font, ticks_of)
-from .histories import (PLACES, Course, Histories, History, ages_are_spread, ages_in, counts_in, course_of, edges,
-                        levels, oldest)
+from .histories import (PLACES, Course, Histories, History, ages_are_spread, ages_in, copies_levels, counts_in,
+                        course_of, edges, levels, oldest)
 from .logs import Log, tell_open
 from .requirements import Requirement
 from .scenarios import scenario_at
@@ -152,6 +152,20 @@ def depth_panel(queue: History, start: int, end: int, columns: int,
         [one for one in requirements if one.column in DEPTH_COLUMNS])
 
 
+def copies_panel(queue: History, start: int, end: int, columns: int) -> Panel | None:
+    """How many copies each scaler lets ask; none if no number changed in the whole run."""
+    courses = [course_of(*copies_levels(*told, start, end)) for told in queue.copies.values()]
+    if not courses:
+        return None
+
+    def draw(axes: Any) -> None:
+        for course in courses:
+            draw_course(axes, course, columns, COLOURS["copies"], 1.6)
+
+    caption = [("copies that", GREY), ("ask", COLOURS["copies"]), *caption_of(courses, columns)]
+    return Panel(COUNTS, caption, False, draw, max(int(course.firsts.max()) for course in courses))
+
+
 def age_panel(queue: History, bounds: Any, requirements: Sequence[Requirement]) -> Panel | str:
     numpy = library("numpy", "python3-numpy")
     steps = dict(zip(("middle", "95 %", "greatest"), ages_in(queue, bounds)))
@@ -211,8 +225,8 @@ class Part:
         own = [requirement for requirement in requirements if requirement.is_of(queue.name)]
         columns = width - LEFT - RIGHT
         bounds = edges(start, end, columns // BIN)
-        found = [depth_panel(queue, start, end, columns, own), age_panel(queue, bounds, own),
-                 oldest_panel(queue, start, end, columns), count_panel(queue, bounds)]
+        found = [depth_panel(queue, start, end, columns, own), copies_panel(queue, start, end, columns),
+                 age_panel(queue, bounds, own), oldest_panel(queue, start, end, columns), count_panel(queue, bounds)]
         self.panels = [panel for panel in found if isinstance(panel, Panel)]
         told = [f"Whole run: {queue.counts()}"]
         if queue.peak:

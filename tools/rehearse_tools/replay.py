@@ -13,7 +13,7 @@ from collections.abc import Callable, Container, Iterator, Mapping
 from contextlib import contextmanager
 from typing import Generic, NamedTuple, Protocol, TypeVar
 
-from .console import Fault
+from .console import Fault, shown
 from .logs import NUMBER, REFUSALS, Head, Log, Rows, Take, What
 
 # Each kind of rows, with the methods that may take it: the first of them that a class has does.
@@ -26,7 +26,7 @@ KINDS: dict[What, tuple[str, ...]] = {
     ("cancel", "ok"): ("called",), ("fail", "ok"): ("failed",), ("forward", "out"): ("forwarded",),
     ("release", "visible"): ("released",), ("redrive", "out"): ("redriven", "leaves"),
     ("move", "out"): ("moved", "leaves"), ("expire", "expired"): ("expired", "leaves"),
-    ("sample", "ok"): (), ("task", "Completed"): (), ("task", "Failed"): (),
+    ("scale", "ok"): ("scaled",), ("sample", "ok"): (), ("task", "Completed"): (), ("task", "Failed"): (),
     **{(call, refusal): (f"{call}_refused", "refused")
        for call in ("send", "receive", "delete", "change", "start", "cancel") for refusal in REFUSALS}}
 # What brings a message into the queue of a row, and what takes it out of there.
@@ -35,6 +35,8 @@ LEAVES = {what for what, names in KINDS.items() if "leaves" in names}
 # The rows whose detail is a number.
 NUMBERED = {("delete", "deleted"), ("expire", "expired"), ("change", "ok")}
 MESSAGE = re.compile("(?:m-[0-9]{1,19}-[0-9]{1,19})?")
+# How many copies asked, and how many ask from then on.
+COPIES = re.compile("([0-9]{1,4})/([0-9]{1,4})")
 # Where a message may be; the final queues call the places so.
 VISIBLE, IN_FLIGHT, DELAYED, NOWHERE = range(4)
 FINAL_DELAYED = "delayed"
@@ -186,6 +188,14 @@ def faults_told(log: Log) -> Iterator[None]:
         raise log.no_row() from None
     except BadRow as reason:
         raise Fault(f"{log.path} line {log.line}: {reason}") from None
+
+
+def copies_in(detail: str) -> tuple[int, int]:
+    """The two numbers of a row of a scaler: how many copies asked, and how many ask from then on."""
+    found = COPIES.fullmatch(detail)
+    if found is None:
+        raise BadRow(f"{shown(detail)} is no change of copies")
+    return int(found[1]), int(found[2])
 
 
 def is_forward(message: str, detail: str) -> bool:

@@ -40,8 +40,8 @@ from .console import (Fault, Parser, check_library, check_output, check_title, c
                       read_text, shown, tell, write_text)
 from .drawing import ALARM, COLOURS, unit_of
 from .figures import COST, Figures
-from .histories import (PLACES, Course, Histories, History, ages_are_spread, ages_in, counts_in, course_of, edges,
-                        levels, oldest)
+from .histories import (PLACES, Course, Histories, History, ages_are_spread, ages_in, copies_levels, counts_in,
+                        course_of, edges, levels, oldest)
 from .logs import Log
 from .overview import COLUMNS as OVERVIEW
 from .overview import cells_of
@@ -282,13 +282,16 @@ def bounds_of(requirements: list[Requirement], ends: list[float], unit: int) -> 
 def panels_of(queue: History, start: int, end: int, size: int, requirements: Iterable[Requirement] = ()) -> list[Panel]:
     """What may be drawn of a queue."""
     bounds = edges(start, end, BINS)
-    places, ages, counts = [], [], []
+    places, ages, counts, copies = [], [], [], []
     for name, place in PLACES.items():
         times, numbers = levels(queue, place, start, end)
         if len(times) <= COLUMNS_OF_LINES:
             places.append(line(times, numbers_of(numbers), name, size, shape="hv"))
         else:
             places += lines_of_means(course_of(times, numbers), name, size)
+    for told in queue.copies.values():
+        times, numbers = copies_levels(*told, start, end)
+        copies.append(line(times, numbers_of(numbers), "copies", size, shape="hv"))
     ranks = dict(zip(("middle", "95 %", "greatest"), ages_in(queue, bounds)))
     unit, unit_size = unit_of_ages(ranks["greatest"])
     for name, found in reversed(ranks.items()):
@@ -304,7 +307,7 @@ def panels_of(queue: History, start: int, end: int, size: int, requirements: Ite
     if any(any(trace["y"]) for trace in ages):
         ages += bounds_of([one for one in requirements if one.is_age], [start / size, end / size], unit_size)
     is_log = bool(len(queue.ages)) and ages_are_spread(queue, bounds)
-    return [Panel("messages", 4, places),
+    return [Panel("messages", 4, places), Panel("copies<br>that ask", 1.5, copies),
             Panel(f"age when<br>deleted ({unit})", 2, ages, "log" if is_log else "linear"),
             Panel(f"oldest ({oldest_unit})", 1.5, ages_of_oldest), Panel("redriven,<br>expired", 1.5, counts)]
 

@@ -10,8 +10,8 @@ from typing import Any, NamedTuple, Optional
 from .console import Fault, shown
 from .doors import Doors, Left
 from .logs import NAME, NUMBER, PLACES, REFUSALS, Head, Log, What, check_number
-from .replay import BadRow, Replay, handlers_of, is_forward, replay
-from .units import duration
+from .replay import BadRow, Replay, copies_in, handlers_of, is_forward, replay
+from .units import duration, several
 
 ACTIONS = {"send": "SendMessage", "receive": "ReceiveMessage", "delete": "DeleteMessage",
            "change": "ChangeMessageVisibility", "start": "StartMessageMoveTask", "cancel": "CancelMessageMoveTask"}
@@ -21,10 +21,11 @@ BY_KIND: dict[str, set[What]] = {
     "sent": {("send", "new")}, "repeated_sends": {("send", "repeat"), ("arrive", "repeat")},
     "deleted": {("delete", "deleted")}, "receives": {("receive", "ok")}, "failed_services": {("fail", "ok")},
     "forwarded": {("forward", "out")}, "moved_away": {("move", "out")}, "dead_lettered": {("redrive", "out")},
-    "lost_by_expiry": {("expire", "expired")}, "empty_receives": {("receive", "empty")}}
+    "lost_by_expiry": {("expire", "expired")}, "empty_receives": {("receive", "empty")},
+    "copies_changed": {("scale", "ok")}}
 COUNTED = (*CAME_IN, "repeated_sends", "deleted", "handled_once", "handled_more_than_once", "receives",
            "received_messages", "failed_services", "forwarded", "moved_away", "dead_lettered", "lost_by_expiry",
-           *ACTIONS.values(), "empty_receives", "refused_requests")
+           *ACTIONS.values(), "empty_receives", "refused_requests", "copies_changed")
 ID = re.compile("m-[0-9]{1,19}-[0-9]{1,19}")
 WAITING = -1
 PERCENTS = (50, 95, 99)
@@ -78,7 +79,8 @@ class Queue:
     neither used to delete nor had a service that failed. A message that is in neither is forgotten. `polls` has for
     each actor that received WAITING, or the time of its last answer. `backlog_since` has from when on there was a
     backlog, if there is one now. `texts` counts the ages that are not yet in `ages` by their texts. `moved_here` has the
-    messages that a move task brought and that are there, and `moved_ages` counts the ages of those deleted.
+    messages that a move task brought and that are there, and `moved_ages` counts the ages of those deleted. `copies` has
+    for each scaler how many copies ask since its last change.
     """
 
     # A class with over 30 attributes is slower without this.
@@ -86,7 +88,8 @@ class Queue:
                  "on_their_way", "there_before", "filled_at", "backlog_since", "backlog_gone_at", "report", "is_cut",
                  "kinds", "came_by_forward", "came_by_move", "polled", "received_messages", "handled_once",
                  "handled_more_than_once", "tries_greatest", "times_handled_greatest", "texts", "ages", "moved_ages",
-                 "age_sum", "age_greatest", "depth_greatest", "depth_greatest_at", "dead_lettered_to", "moved_to")
+                 "age_sum", "age_greatest", "depth_greatest", "depth_greatest_at", "dead_lettered_to", "moved_to",
+                 "copies", "copies_greatest")
 
     def __init__(self, name: str, run: "Run") -> None:
         self.name, self.run, self.backlog = name, run, run.backlog
@@ -101,6 +104,7 @@ class Queue:
         self.backlog_gone_at: int | None = None
         self.report: Values = {}
         self.is_cut = False
+        self.copies: dict[str, int] = {}
         self.clear()
 
     def clear(self) -> None:
@@ -116,6 +120,7 @@ class Queue:
         self.depth_greatest_at: int | None = None
         self.dead_lettered_to: set[str] = set()
         self.moved_to: set[str] = set()
+        self.copies_greatest = max(self.copies.values(), default=None)
 
     def begin(self, at: int) -> None:
         """Forgets what was counted before a moment; the messages that are there, and what they went through, are kept.
@@ -299,6 +304,11 @@ class Queue:
     def leaves(self, at: int, head: Head, name: str, receipt: str, detail: str) -> None:
         self.leave(at, name)
 
+    def scaled(self, at: int, head: Head, name: str, receipt: str, detail: str) -> None:
+        before, after = copies_in(detail)
+        self.copies[head.agent] = after
+        self.copies_greatest = max(before, after, self.copies_greatest or 0)
+
     @property
     def counts(self) -> dict[str, int]:
         """What COUNTED names."""
@@ -355,7 +365,7 @@ class Queue:
             "backlog_gone_at_ms": self.backlog_gone_at if self.backlog_since is None else None,
             "backlog_since_ms": self.backlog_since, "backlog_over": self.run.backlog,
             "not_empty_since_ms": self.filled_at if left else None,
-            "requests": sum(counts[action] for action in ACTIONS.values()),
+            "requests": sum(counts[action] for action in ACTIONS.values()), "copies_greatest": self.copies_greatest,
             "dead_lettered_to": sorted(self.dead_lettered_to), "moved_to": sorted(self.moved_to)}
 
 
@@ -551,6 +561,7 @@ LINES = (
     Line("depth_greatest", "greatest depth", grouped, True),
     Line("depth_greatest_at_ms", "greatest depth at", duration, True),
     Line("backlog_gone_at_ms", "backlog gone at", duration, True),
+    Line("copies_greatest", "copies that ask, greatest", grouped, False),
     Line("requests", "API requests", grouped, True),
     Line("SendMessage", "  SendMessage", grouped, True),
     Line("ReceiveMessage", "  ReceiveMessage", grouped, True),
@@ -580,6 +591,8 @@ def note_of(key: str, values: Values) -> str:
         note += f", to {named(values['dead_lettered_to'])}"
     elif key == "door_age_open":
         note = f"as forwards of {named(values['door_age_open_by'])} may overtake"
+    elif key == "copies_greatest":
+        note = f"changed {several(values['copies_changed'], 'time')}"
     elif key == "moved_away":
         note += f", to {named(values['moved_to'])}"
     elif key == "depth_greatest" and values[key]:
