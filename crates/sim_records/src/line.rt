@@ -10,8 +10,8 @@ ghost use Rattle.sqs_message.specs.Ids.{id_text, origin_text, receipt_text};
 
 use crate::before::{NUMBER, put_field, room_before};
 use crate::fields::{
-    NUMBERS, counts_before, pair_before, digest_before, number_before, numbered_before, receipt_before,
-    word_before,
+    NUMBERS, counts_before, digest_before, number_before, numbered_before, pair_before,
+    receipt_before, word_before,
 };
 use crate::names::Names;
 use crate::quotes::needs_quotes;

@@ -1,6 +1,6 @@
 -- What each actor of a text says: its name, its ranges, its home, and what it does there.
 use Rattle.std.proofs.Common.{◌≡◌, ◌∙◌, ℕ, zero, suc, ◌<◌, ◌≤◌, Bool, true, false, codes, List, [], ◌∷◌, length, get_or, map, Option, Some, None, Result, Ok, Err, refl, sym, subst, ap, arith, lit≤}
-use Rattle.std.specs.Prelude.{All, nat_le, ◌&&◌, ◌-◌}
+use Rattle.std.specs.Prelude.{All, nat_le, ◌&&◌, ◌*◌, ◌-◌}
 use Rattle.std.specs.Option.{is_some}
 use Rattle.toml.specs.Data.{as_array}
 use Rattle.std.proofs.lemmas.Bool.Decides.{Decides-eqb}
@@ -204,6 +204,13 @@ scaling_reads true o home index t s e =
 none_old : (every : ℕ) → Between 0 (every - 1) 0
 none_old every = (omega arith, omega arith)
 
+-- a thousand times as much
+thousand_within : (low high n : ℕ) → Between low high n → Between (1000 * low) (1000 * high) (1000 * n)
+thousand_within low high n h = (omega (arith, h.0), omega (arith, h.1))
+
+thousand_less : (every reading : ℕ) → 1 ≤ every → reading ≤ every - 1 → 1000 * reading < 1000 * every
+thousand_less every reading some within = omega (arith, some, within)
+
 scaler_reads : (o : Outline) (home : ℕ) (t : Table) (r : Role) → scaler t ≡ Ok r → RoleReads o home r
 scaler_reads o home t r e =
     let known = parts _ _ _ e in
@@ -224,8 +231,8 @@ scaler_reads o home t r e =
       tt,
       record {
         start = (optional_within 0 2592000000 0 t (codes "start_ms") start.0 (lit≤ tt, lit≤ tt) start.1).1;
-        every = (omega (arith, often.0), omega (arith, often.1));
-        reading = omega (arith, often.0, old.1);
+        every = thousand_within 1 86400 every.0 often;
+        reading = thousand_less every.0 reading.0 often.0 old.1;
         target = required_within 1 1000000 t (codes "visible_per_copy") target.0 target.1;
         ordered = bounds.0;
         most = bounds.1;

@@ -10,7 +10,6 @@ pub mod ListItems
 pub mod Exits
 pub mod ListsRead
 pub mod QuantilesRead
-pub mod ScalersRead
 pub mod GroupsRead
 pub mod OutagesRead
 pub mod TopRanges

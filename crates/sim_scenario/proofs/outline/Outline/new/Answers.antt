@@ -58,8 +58,7 @@ returns c =
     c.saturating_sub-room.ensures ∙ (λ j. 10000 - (sym (length-map c.args.actors.now view) j + sym (length-map c.args.tasks.now view) j)) in
     let counted : copies ≡ copies_within (room_beside actors tasks) (map (copies_asked c.args.version) actors) =
     c.in_ok-copies.ensures ∙ ap (λ r. copies_within r (map (copies_asked c.args.version) actors)) room in
-    let scalers_at : scalers_from (length c.args.queues.now) actors ≡ scalers_from (length (named queues)) actors =
-    ap (λ n. scalers_from n actors) (sym (length-map queues (text_in (codes "name")) ∙ length-map c.args.queues.now view)) in
+    let scalers_at : scalers_from (length c.args.queues.now) actors ≡ scalers_from (length queues) actors = ap (λ n. scalers_from n actors) (sym (length-map c.args.queues.now view)) in
     λ j. record {
       version = c.args.version;
       names = (laid.whole ∙ ap (λ cs. named queues ++ (names_taken (named actors) cs ++ named tasks)) counted) j;
