@@ -3,7 +3,7 @@
 ghost use Rattle.std.specs.Prelude.{IfOk};
 ghost use Rattle.sqs_model.specs.Progress.{AreTimely};
 
-use crate::tests::machines::{copies, scenario};
+use crate::tests::machines::{copies, previewed};
 use sim_clock::{Class, Key, Refusal};
 use sim_engine::Effects;
 use sim_partition::Partition;
@@ -40,7 +40,7 @@ fn in_one(
 fn opened(alloc: Global, text: &[u8], transfers: Vec<Outbound>) -> Option<(Partition<Site>, Names)>
     requires { AreTimely transfers.items }
 {
-    let scenario = scenario(alloc, text)?;
+    let scenario = previewed(alloc, text)?;
     let names = Names::new(copies(alloc, scenario.names()).ok()?);
     let partition = in_one(alloc, scenario, transfers).ok()?;
     Some((partition, names))
@@ -272,4 +272,41 @@ fn arrival_and_a_consumer_that_forwards(rt: HostRuntime) {
         ((601, 2, Class::Wake, 2), b"601,q,c,receive,empty,,,\n", &[]),
     ];
     assert!(rt; tells_of_an_arrival(rt.alloc(), text, &wanted));
+}
+
+/// A scaler reads each second how many of the messages of `q` are visible. Both copies park until it
+/// wakes. The first copy then starts for 500 ms, and asks. It serves its message for 600 ms, though
+/// the scaler wants none at 2000, when that is in flight. After that it parks as the other one.
+#[test]
+fn scaler_and_the_copies_that_go_by_it(rt: HostRuntime) {
+    let text =
+        b"version = 3\nhorizon = 5000\n[[queue]]\nname = 'q'\n[[actor]]\nname = 'p'\nkind = 'script'\nqueue = 'q'\ncalls = '''\nat,call,body,group,id,delay,receipt,max,wait,timeout,task\n0,send,abc,,,,,,,,\n'''\n[[actor]]\nname = 's'\nkind = 'scaler'\nqueue = 'q'\nstart_ms = 1000\nevery_s = 1\nvisible_per_copy = 1\ncopies_min = 0\ncopies_max = 2\n[[actor]]\nname = 'w'\nkind = 'consumer'\nqueue = 'q'\nstart_ms = 100\nservice_min_ms = 600\nservice_max_ms = 600\ncopies = 2\nscaler = 's'\nscaler_start_ms = 500\n".as_slice();
+    let wanted: [Handled<'_>; 13] = [
+        (
+            (0, 1, Class::Wake, 0),
+            b"0,q,p,send,new,m-0-0,,900150983cd24fb0d6963f7d28e17f72\n",
+            &[],
+        ),
+        ((100, 3, Class::Wake, 0), b"", &[]),
+        ((100, 4, Class::Wake, 0), b"", &[]),
+        ((1000, 2, Class::Wake, 0), b"1000,q,s,scale,ok,,,0/1\n", &[]),
+        ((1000, 3, Class::Wake, 1), b"", &[]),
+        ((1000, 4, Class::Wake, 1), b"", &[]),
+        (
+            (1500, 3, Class::Wake, 2),
+            b"1500,q,w-1,receive,ok,m-0-0,r-0-0-1,o-0-0\n",
+            &[],
+        ),
+        ((2000, 2, Class::Wake, 1), b"2000,q,s,scale,ok,,,1/0\n", &[]),
+        ((2000, 4, Class::Wake, 2), b"", &[]),
+        (
+            (2100, 3, Class::Wake, 3),
+            b"2100,q,w-1,delete,deleted,m-0-0,r-0-0-1,2100\n",
+            &[],
+        ),
+        ((2101, 3, Class::Wake, 4), b"", &[]),
+        ((3000, 2, Class::Wake, 2), b"", &[]),
+        ((3000, 3, Class::Wake, 5), b"", &[]),
+    ];
+    assert!(rt; tells(rt.alloc(), text, &wanted));
 }

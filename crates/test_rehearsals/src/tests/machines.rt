@@ -12,7 +12,7 @@ use sim_engine::Pick;
 use sim_exchange::PartMap;
 use sim_records::{Names, ToWriter, write_finals, write_header, write_rows};
 use sim_report::Report;
-use sim_scenario::{Scenario, Scripts, read};
+use sim_scenario::{Draft, Newest, Scenario, Scripts, read};
 use sim_site::Site;
 use sim_windows::{Ended, Machine, RowSink};
 use sqs_message::{Row, Text};
@@ -83,6 +83,12 @@ impl Logged {
 /// The scenario of a text without script files.
 pub fn scenario(alloc: Global, text: &[u8]) -> Option<Scenario> {
     read(alloc, text, &Scripts::new(Vec::new(alloc))).ok()
+}
+
+/// The same, if the preview may be read, too.
+pub fn previewed(alloc: Global, text: &[u8]) -> Option<Scenario> {
+    let draft = Draft::parse_upto(alloc, Newest::Preview, text).ok()?;
+    draft.read(alloc, &Scripts::new(Vec::new(alloc))).ok()
 }
 
 /// Copies of names.

@@ -1,9 +1,9 @@
 //! The ways and the parts of scenarios that were read. The expected values follow from the rules of
 //! the formats.
-use crate::tests::machines::scenario;
+use crate::tests::machines::{previewed, scenario};
 use sim_engine::Edge;
-use sim_scenario::{Draft, Newest, Scenario, Scripts, edges};
-use sqs_model::{ActorSettings, Outage, Role, Serving, Stretch};
+use sim_scenario::{Scenario, edges};
+use sqs_model::{ActorSettings, Outage, Role, ScalerSettings, Scaling, Serving, Stretch};
 use std::alloc::Global;
 
 // Whether these are the ways of a scenario.
@@ -62,12 +62,6 @@ fn scenarios_give_their_parts(rt: HostRuntime) {
     }
 }
 
-// The scenario of a text, of which the preview may be read.
-fn previewed(alloc: Global, text: &[u8]) -> Option<Scenario> {
-    let draft = Draft::parse_upto(alloc, Newest::Preview, text).ok()?;
-    draft.read(alloc, &Scripts::new(Vec::new(alloc))).ok()
-}
-
 // Whether actors are one consumer with this kind of service, failed ones of 30 ms, these outages,
 // and a backoff that is drawn.
 fn is_served(actors: &[ActorSettings], serving: Serving, outages: &[Outage]) -> bool {
@@ -106,6 +100,91 @@ fn consumers_of_version_3_are_as_their_keys_say(rt: HostRuntime) {
             let parts = scenario.into_parts();
             let once = Serving::Once { each: 20 };
             assert!(rt; is_served(parts.actors.as_slice(), once, &outages));
+        }
+        None => assert!(rt; false),
+    }
+}
+
+// Whether an actor is a scaler with these settings.
+fn is_scaler(actor: &ActorSettings, settings: ScalerSettings) -> bool {
+    match &actor.role {
+        Role::Scaler(scaler) => *scaler == settings,
+        _ => false,
+    }
+}
+
+// Whether an actor is a consumer that is scaled so.
+fn is_scaled(actor: &ActorSettings, scaling: Scaling) -> bool {
+    match &actor.role {
+        Role::Consumer(consumer) => consumer.scaling == Some(scaling),
+        _ => false,
+    }
+}
+
+// Whether actors are those of the test below, by the scalings of both consumers.
+fn are_scaled(actors: &[ActorSettings], here: Scaling, there: Scaling) -> bool {
+    match actors {
+        [first, scaler, worker, other, copy, second, third] => {
+            is_scaler(scaler, EVERY_KEY)
+                && is_scaler(other, FEWEST_KEYS)
+                && is_scaled(first, there)
+                && is_scaled(copy, there)
+                && is_scaled(worker, here)
+                && is_scaled(second, here)
+                && is_scaled(third, here)
+        }
+        _ => false,
+    }
+}
+
+// The settings of a scaler with every key.
+const EVERY_KEY: ScalerSettings = ScalerSettings {
+    start: 1,
+    every: 60_000,
+    reading: 20_000,
+    target: 100,
+    least: 2,
+    most: 12,
+    most_added: 4,
+    most_taken: 3,
+    cooldown_out: 30_000,
+    cooldown_in: 300_000,
+};
+
+// Those of one with as few keys as there may be.
+const FEWEST_KEYS: ScalerSettings = ScalerSettings {
+    start: 0,
+    every: 5000,
+    reading: 0,
+    target: 7,
+    least: 1,
+    most: 9,
+    most_added: 1000,
+    most_taken: 1000,
+    cooldown_out: 0,
+    cooldown_in: 0,
+};
+
+// Queue 0 has the scaler 3 and the copies 4, 7 and 8 of a consumer; queue 1 has the copies 2 and 6,
+// and behind all of these the scaler 5.
+#[test]
+fn scalers_and_copies_are_as_their_keys_say(rt: HostRuntime) {
+    let text =
+        b"version = 3\nhorizon = 90\n[[queue]]\nname = 'q'\n[[queue]]\nname = 'r'\n[[actor]]\nname = 'p'\nkind = 'consumer'\nqueue = 'r'\nservice_min_ms = 1\nservice_max_ms = 2\ncopies = 2\nscaler = 't'\n[[actor]]\nname = 's'\nkind = 'scaler'\nqueue = 'q'\nstart_ms = 1\nevery_s = 60\nreading_s = 20\nvisible_per_copy = 100\ncopies_min = 2\ncopies_max = 12\nadded_max = 4\ntaken_max = 3\ncooldown_out_s = 30\ncooldown_in_s = 300\n[[actor]]\nname = 'w'\nkind = 'consumer'\nqueue = 'q'\nservice_min_ms = 1\nservice_max_ms = 2\ncopies = 3\nscaler = 's'\nscaler_start_ms = 45000\n[[actor]]\nname = 't'\nkind = 'scaler'\nqueue = 'r'\nevery_s = 5\nvisible_per_copy = 7\ncopies_max = 9\n".as_slice();
+    let here = Scaling {
+        scaler: 3,
+        second: 7,
+        start: 45_000,
+    };
+    let there = Scaling {
+        scaler: 5,
+        second: 6,
+        start: 0,
+    };
+    match previewed(rt.alloc(), text) {
+        Some(scenario) => {
+            let parts = scenario.into_parts();
+            assert!(rt; are_scaled(parts.actors.as_slice(), here, there));
         }
         None => assert!(rt; false),
     }

@@ -217,7 +217,9 @@ type Step = (u32, Told, &'static str, Option<u64>);
 fn live(rt: &impl Abort, alloc: Global, actor: &mut Actor, steps: &[Step]) {
     for &(now, told, wanted, wake) in steps {
         let mut act = match reply(rt, alloc, told) {
-            None => actor.woken(u64::from(now), standing(told)).expect(rt, "an act"),
+            None => actor
+                .woken(u64::from(now), standing(told))
+                .expect(rt, "an act"),
             Some(reply) => act_of(actor.answered(u64::from(now), reply).expect(rt, "an act")),
         };
         let mut line = String::new(alloc);
@@ -651,8 +653,8 @@ fn copy_asks_while_its_scaler_says_so(rt: HostRuntime) {
 // adds 2 at most at once, and takes one.
 fn scaler(reading: u64, cooldown_out: u64, cooldown_in: u64) -> ScalerSettings
     requires reading { reading < 10000 }
-    requires out { cooldown_out ≤ 30000 }
-    requires in { cooldown_in ≤ 30000 }
+    requires added { cooldown_out ≤ 30000 }
+    requires taken { cooldown_in ≤ 30000 }
     ensures { IsScaler result }
 {
     ScalerSettings {

@@ -43,7 +43,7 @@ const BEHIND: &[u8] = b"transfer,from,to,kind,due,number,message,origin,md5\n";
 
 /// Rows that the program writes: each kind with each of its answers. A handle is any text, and has
 /// quotes if it needs them.
-const WRITTEN: [&[u8]; 27] = [
+const WRITTEN: [&[u8]; 29] = [
     b"1,q,p,send,repeat,m-0-1,,00112233445566778899aabbccddeeff\n",
     b"1,q,p,send,BadDelay,,,\n",
     b"1,q,p,send,MissingGroup,,,\n",
@@ -67,6 +67,8 @@ const WRITTEN: [&[u8]; 27] = [
     b"1,q,q,expire,expired,m-0-1,,345600000\n",
     b"1,d,m,task,Completed,,,0\n",
     b"1,d,m,task,Failed,,,18446744073709551615\n",
+    b"1,q,c,scale,ok,,,1/4\n",
+    b"1,q,c,scale,ok,,,4294967295/0\n",
     b"1,q,q,sample,ok,,,1/0/2\n",
     b"18446744073709551615,q,q,release,visible,m-4294967295-18446744073709551615,,\n",
     b"1,q,c,change,BadTimeout,,r-0-1-1,\n",
@@ -74,7 +76,7 @@ const WRITTEN: [&[u8]; 27] = [
 ];
 
 /// Lines that are no rows of these names.
-const NO_ROWS: [&[u8]; 32] = [
+const NO_ROWS: [&[u8]; 38] = [
     b"1,q,q,release,visible,m-0-1,,",
     b"1,q,q,release,visible,m-0-1,\n",
     b"1,q,q,release,visible,m-0-1,,,\n",
@@ -99,6 +101,12 @@ const NO_ROWS: [&[u8]; 32] = [
     b"1,q,q,release,visible,m-0-1,,1\n",
     b"1,q,q,redrive,out,m-0-1,,r\n",
     b"1,q,q,expire,expired,m-0-1,,-1\n",
+    b"1,q,c,scale,ok,,,1\n",
+    b"1,q,c,scale,ok,,,1/2/3\n",
+    b"1,q,c,scale,ok,,,1/04\n",
+    b"1,q,c,scale,ok,,,1/4294967296\n",
+    b"1,q,c,scale,ok,m-0-1,,1/4\n",
+    b"1,q,c,scale,Failed,,,1/4\n",
     b"1,q,q,sample,ok,,,1/2\n",
     b"1,q,c,receive,ok,m-0-1,r-0-1-0,o-0-1\n",
     b"1,q,c,receive,ok,m-0-1,,o-0-1\n",

@@ -10,7 +10,7 @@ use std::alloc::Global;
 use std::process::Abort;
 
 /// A row of each kind.
-const KINDS: [(RowKind, &[u8]); 15] = [
+const KINDS: [(RowKind, &[u8]); 16] = [
     (RowKind::Send, b"7,q,s,send,ok,,,\n"),
     (RowKind::Receive, b"7,q,s,receive,ok,,,\n"),
     (RowKind::Delete, b"7,q,s,delete,ok,,,\n"),
@@ -25,6 +25,7 @@ const KINDS: [(RowKind, &[u8]); 15] = [
     (RowKind::Arrive, b"7,q,s,arrive,ok,,,\n"),
     (RowKind::Expire, b"7,q,s,expire,ok,,,\n"),
     (RowKind::Task, b"7,q,s,task,ok,,,\n"),
+    (RowKind::Scale, b"7,q,s,scale,ok,,,\n"),
     (RowKind::Sample, b"7,q,s,sample,ok,,,\n"),
 ];
 
@@ -60,7 +61,7 @@ const COUNTS: Detail = Detail::Counts {
 };
 
 /// A row with each detail.
-const DETAILS: [(Detail, &[u8]); 10] = [
+const DETAILS: [(Detail, &[u8]); 12] = [
     (Detail::Absent, b"7,q,s,sample,ok,,,\n"),
     (
         Detail::Digest([0xab; 16]),
@@ -76,6 +77,14 @@ const DETAILS: [(Detail, &[u8]); 10] = [
     (Detail::Task(3), b"7,q,s,sample,ok,,,t\n"),
     (Detail::Task(4), b"7,q,s,sample,ok,,,\n"),
     (Detail::Moved(0), b"7,q,s,sample,ok,,,0\n"),
+    (
+        Detail::Copies { from: 1, to: 4 },
+        b"7,q,s,sample,ok,,,1/4\n",
+    ),
+    (
+        Detail::Copies { from: 1000, to: 0 },
+        b"7,q,s,sample,ok,,,1000/0\n",
+    ),
     (COUNTS, b"7,q,s,sample,ok,,,1/2/3\n"),
 ];
 
