@@ -97,7 +97,7 @@ pub record IsFramed (old new : Actor) : Type 0 where
   pub settings : new.settings ≡ old.settings
 
 -- an act and the actor after it are the definition's; a count at its limit is returned only if the definition would
--- count past it, and want of memory only if it would not
+-- count past it, and out of memory only if it would not
 abbrev pub Decides : Result Act Refusal → Actor → Act × Actor → Type 0
 Decides (Ok act) new model = model ≡ (act, new)
 Decides (Err refusals.CountLimit) new model = most_count < greatest_count model.1
