@@ -442,6 +442,7 @@ impl Life {
 
     // A consumer's wake has come. While it serves, it sets the visibility timeout of the message
     // anew, or the service ends.
+    #[inline(always)]
     pub(crate) fn consumer_wake(
         &mut self,
         consumer: &ConsumerSettings,

@@ -255,7 +255,6 @@ impl Life {
     }
 
     // A copy's wake has come, and it has nothing to do but to go by its scaler.
-    #[inline(never)]
     fn copy_rest(
         &mut self,
         consumer: &ConsumerSettings,
@@ -281,7 +280,30 @@ impl Life {
         self.consumer_wake(consumer, home, now)
     }
 
-    // A consumer's wake has come. It goes by its scaler, if it has one and nothing else to do.
+    // A copy's wake has come. It goes by its scaler, if it has nothing else to do.
+    #[inline(never)]
+    fn scaled_wake(
+        &mut self,
+        consumer: &ConsumerSettings,
+        scaling: Scaling,
+        home: u32,
+        now: u64,
+        standing: Standing,
+    ) -> Result<Act, Refusal>
+        requires moment { now ≤ most_count }
+        requires start { scaling.start ≤ most_count }
+        requires consumer { IsConsumer consumer.now }
+        ensures decision { DecidesAt home result self.old self.new
+            (λ a. the_copy_wake (Some scaling) (woken a) consumer.now now standing) }
+        ensures framed { self.new.number ≡ self.old.number }
+    {
+        if self.holding.is_empty() {
+            return self.copy_rest(consumer, scaling, home, now, standing);
+        }
+        self.consumer_wake(consumer, home, now)
+    }
+
+    // A consumer's wake has come. It goes by its scaler, if it has one.
     #[inline(always)]
     pub(crate) fn copy_wake(
         &mut self,
@@ -296,12 +318,9 @@ impl Life {
             (λ a. the_copy_wake consumer.now.scaling (woken a) consumer.now now standing) }
         ensures framed { self.new.number ≡ self.old.number }
     {
-        let Some(scaling) = consumer.scaling else {
-            return self.consumer_wake(consumer, home, now);
-        };
-        if self.holding.is_empty() {
-            return self.copy_rest(consumer, scaling, home, now, standing);
+        match consumer.scaling {
+            None => self.consumer_wake(consumer, home, now),
+            Some(scaling) => self.scaled_wake(consumer, scaling, home, now, standing),
         }
-        self.consumer_wake(consumer, home, now)
     }
 }
