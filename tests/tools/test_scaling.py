@@ -7,7 +7,6 @@ import collections
 import heapq
 import itertools
 import math
-import os
 import random
 import statistics
 import subprocess

@@ -7,15 +7,15 @@
 
 For each queue it draws how many messages are visible, in flight and delayed over time. It draws the middle, 95 % and
 greatest age of messages when they were deleted, in steps, if any were; and the age of the oldest message in the queue.
-If a scaler changed how many copies of consumers ask, it draws that number. Bars show how many messages left for the dead-letter queue or expired. A part that has nothing to show is left out, and
-a note says so; the top says how many messages expired in which queue. LOG is a file made by `run --log`, and REST.out
-what that run prints; or LOG is what `run` prints without --log; - is standard input. A log without a report is that of
-a run that was ended: it is refused if it comes by standard input, and of a file the picture says that the end was not
-seen. Without --output an SVG goes to standard output. Without --queue every queue is drawn, or the 20 with the most
-rows if there are more. --queue may be given several times, and also names a queue without rows if the report of the run
-follows the log. --from and --to draw a part of the run: a time as 90s, 1.5h, 1h30m or 1:30:00, without a unit
-milliseconds. --scenario names the scenario that was run, which is shown with its seed below the title. W and H are in
-pixels.
+If a scaler changed how many copies ask, it draws that number. Bars show how many messages left for the dead-letter
+queue or expired. A part that has nothing to show is left out, and a note says so; the top says how many messages
+expired in which queue. LOG is a file made by `run --log`, and REST.out what that run prints; or LOG is what `run`
+prints without --log; - is standard input. A log without a report is that of a run that was ended: it is refused if it
+comes by standard input, and of a file the picture says that the end was not seen. Without --output an SVG goes to
+standard output. Without --queue every queue is drawn, or the 20 with the most rows if there are more. --queue may be
+given several times, and also names a queue without rows if the report of the run follows the log. --from and --to draw
+a part of the run: a time as 90s, 1.5h, 1h30m or 1:30:00, without a unit milliseconds. --scenario names the scenario
+that was run, which is shown with its seed below the title. W and H are in pixels.
 
 If a line changes more than once a pixel, its mean is drawn over a paler extent from the least to the greatest number.
 Ages have a logarithmic axis if the greatest is over 100 times that in the middle. Without --to a picture ends with the

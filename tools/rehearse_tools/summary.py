@@ -45,8 +45,8 @@ depth         messages in the queue, also delayed ones and those in flight
 backlog gone  A backlog is more than --backlog (10) messages that are not in flight; delayed ones count, because a log
               does not show a delay when it begins. This is the last moment at which one ended: never if there is one
               in the end, and - if there was none.
-copies that   Rows `scale` of scalers at the queue: the greatest number of copies that one of them let ask. If none changed
-ask           the number, there is no line.
+copies that   Rows `scale` of scalers at the queue: the greatest number of copies that one of them let ask. If none
+ask           changed the number, there is no line.
 requests      Calls, as SQS bills them for short bodies: a receive is one with ten messages, with one, or empty, and a
               long poll is one from its beginning on. A forward is a SendMessage to the queue at which it arrives.
               Refused calls count. What the service does on its own, such as redrives and the moves of a task, does
