@@ -29,8 +29,9 @@ from rehearse_tools.console import Fault, Parser, check_output, ended, print_tex
 from stored_cases import Case, cases_at
 
 OPEN = ("reading_on_literals running_on_literals columns_of")
-# A handling may make no row, as a wake at which an actor of version 3 only stops. A run that has ended stays as it is.
-MORE_HANDLINGS = 20
+# A handling may make no row: an actor of version 3 may only stop when it wakes, and a copy that no scaler wants only look
+# again. A run that has ended stays as it is.
+MORE_HANDLINGS = 60
 VERSION_3 = "shown_upto 3"
 
 HEAD = """-- Scenarios with their right output, computed over the definitions. Made by tools/compute_cases.py.

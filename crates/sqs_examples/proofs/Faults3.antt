@@ -580,6 +580,78 @@ case_0_quantiles_in_version_two : shown_upto 3 0 [] (codes "version = 2\nhorizon
 unfolding reading_on_literals running_on_literals columns_of
 case_0_quantiles_in_version_two = refl
 
+-- faults-3/scaler_at_another_queue.toml
+case_0_scaler_at_another_queue : shown_upto 3 0 [] (codes "version = 3\nhorizon = 1000\n[[queue]]\nname = \"q\"\n[[queue]]\nname = \"p\"\n[[actor]]\nname = \"x\"\nkind = \"scaler\"\nqueue = \"p\"\nevery_s = 60\nvisible_per_copy = 10\ncopies_max = 5\n[[actor]]\nname = \"c\"\nkind = \"consumer\"\nqueue = \"q\"\nservice_min_ms = 1\nservice_max_ms = 1\nscaler = \"x\"\n")
+    ≡ refused (codes "refused 17 UnknownQueue at actor[1].scaler\n")
+unfolding reading_on_literals running_on_literals columns_of
+case_0_scaler_at_another_queue = refl
+
+-- faults-3/scaler_in_version_two.toml
+case_0_scaler_in_version_two : shown_upto 3 0 [] (codes "version = 2\nhorizon = 1000\n[[queue]]\nname = \"q\"\n[[queue]]\nname = \"p\"\n[[actor]]\nname = \"x\"\nkind = \"scaler\"\nqueue = \"q\"\nevery_s = 60\nvisible_per_copy = 10\ncopies_max = 5\n")
+    ≡ refused (codes "refused 14 OutOfRange at actor[0].kind\n")
+unfolding reading_on_literals running_on_literals columns_of
+case_0_scaler_in_version_two = refl
+
+-- faults-3/scaler_named_after_the_stop.toml
+case_0_scaler_named_after_the_stop : shown_upto 3 0 [] (codes "version = 3\nhorizon = 1000\n[[queue]]\nname = \"q\"\n[[queue]]\nname = \"p\"\n[[actor]]\nname = \"c\"\nkind = \"consumer\"\nqueue = \"q\"\nservice_min_ms = 1\nservice_max_ms = 1\nstart_ms = 5\nstop_ms = 4\nscaler = \"y\"\n[[actor]]\nname = \"x\"\nkind = \"scaler\"\nqueue = \"q\"\nevery_s = 60\nvisible_per_copy = 10\ncopies_max = 5\n")
+    ≡ refused (codes "refused 14 OutOfRange at actor[0].stop_ms\n")
+unfolding reading_on_literals running_on_literals columns_of
+case_0_scaler_named_after_the_stop = refl
+
+-- faults-3/scaler_of_a_producer.toml
+case_0_scaler_of_a_producer : shown_upto 3 0 [] (codes "version = 3\nhorizon = 1000\n[[queue]]\nname = \"q\"\n[[queue]]\nname = \"p\"\n[[actor]]\nname = \"x\"\nkind = \"scaler\"\nqueue = \"q\"\nevery_s = 60\nvisible_per_copy = 10\ncopies_max = 5\n[[actor]]\nname = \"p1\"\nkind = \"producer\"\nqueue = \"q\"\ncount = 1\ngap_min_ms = 1\ngap_max_ms = 1\nbody = \"b\"\nscaler = \"x\"\n")
+    ≡ refused (codes "refused 11 UnknownKey at actor[1].scaler\n")
+unfolding reading_on_literals running_on_literals columns_of
+case_0_scaler_of_a_producer = refl
+
+-- faults-3/scaler_that_is_a_producer.toml
+case_0_scaler_that_is_a_producer : shown_upto 3 0 [] (codes "version = 3\nhorizon = 1000\n[[queue]]\nname = \"q\"\n[[queue]]\nname = \"p\"\n[[actor]]\nname = \"c\"\nkind = \"consumer\"\nqueue = \"q\"\nservice_min_ms = 1\nservice_max_ms = 1\nscaler = \"x\"\nfails_on = \"\"\n[[actor]]\nname = \"x\"\nkind = \"producer\"\nqueue = \"q\"\ncount = 1\ngap_min_ms = 1\ngap_max_ms = 1\nbody = \"b\"\n")
+    ≡ refused (codes "refused 17 UnknownQueue at actor[0].scaler\n")
+unfolding reading_on_literals running_on_literals columns_of
+case_0_scaler_that_is_a_producer = refl
+
+-- faults-3/scaler_that_is_no_text.toml
+case_0_scaler_that_is_no_text : shown_upto 3 0 [] (codes "version = 3\nhorizon = 1000\n[[queue]]\nname = \"q\"\n[[queue]]\nname = \"p\"\n[[actor]]\nname = \"x\"\nkind = \"scaler\"\nqueue = \"q\"\nevery_s = 60\nvisible_per_copy = 10\ncopies_max = 5\n[[actor]]\nname = \"c\"\nkind = \"consumer\"\nqueue = \"q\"\nservice_min_ms = 1\nservice_max_ms = 1\nscaler = 1\nscaler_start_ms = -1\n")
+    ≡ refused (codes "refused 13 WrongType at actor[1].scaler\n")
+unfolding reading_on_literals running_on_literals columns_of
+case_0_scaler_that_is_no_text = refl
+
+-- faults-3/scaler_that_reads_as_late_as_it_reads_again.toml
+case_0_scaler_that_reads_as_late_as_it_reads_again : shown_upto 3 0 [] (codes "version = 3\nhorizon = 1000\n[[queue]]\nname = \"q\"\n[[queue]]\nname = \"p\"\n[[actor]]\nname = \"x\"\nkind = \"scaler\"\nqueue = \"q\"\nreading_s = 60\nevery_s = 60\nvisible_per_copy = 10\ncopies_max = 5\n")
+    ≡ refused (codes "refused 14 OutOfRange at actor[0].reading_s\n")
+unfolding reading_on_literals running_on_literals columns_of
+case_0_scaler_that_reads_as_late_as_it_reads_again = refl
+
+-- faults-3/scaler_whose_greatest_number_is_below_the_least.toml
+case_0_scaler_whose_greatest_number_is_below_the_least : shown_upto 3 0 [] (codes "version = 3\nhorizon = 1000\n[[queue]]\nname = \"q\"\n[[queue]]\nname = \"p\"\n[[actor]]\nname = \"x\"\nkind = \"scaler\"\nqueue = \"q\"\nevery_s = 60\nvisible_per_copy = 10\ncopies_max = 5\ncopies_min = 6\n")
+    ≡ refused (codes "refused 14 OutOfRange at actor[0].copies_max\n")
+unfolding reading_on_literals running_on_literals columns_of
+case_0_scaler_whose_greatest_number_is_below_the_least = refl
+
+-- faults-3/scaler_with_copies.toml
+case_0_scaler_with_copies : shown_upto 3 0 [] (codes "version = 3\nhorizon = 1000\n[[queue]]\nname = \"q\"\n[[queue]]\nname = \"p\"\n[[actor]]\nname = \"x\"\nkind = \"scaler\"\nqueue = \"q\"\nevery_s = 60\nvisible_per_copy = 10\ncopies_max = 5\ncopies = 2\nevery = 5\n")
+    ≡ refused (codes "refused 11 UnknownKey at actor[0].copies\n")
+unfolding reading_on_literals running_on_literals columns_of
+case_0_scaler_with_copies = refl
+
+-- faults-3/scaler_without_its_greatest_number.toml
+case_0_scaler_without_its_greatest_number : shown_upto 3 0 [] (codes "version = 3\nhorizon = 1000\n[[queue]]\nname = \"q\"\n[[queue]]\nname = \"p\"\n[[actor]]\nname = \"x\"\nkind = \"scaler\"\nqueue = \"q\"\nevery_s = 60\nvisible_per_copy = 10\ntaken_max = 0\n")
+    ≡ refused (codes "refused 12 MissingKey at actor[0].copies_max\n")
+unfolding reading_on_literals running_on_literals columns_of
+case_0_scaler_without_its_greatest_number = refl
+
+-- faults-3/start_of_a_copy_over_a_day.toml
+case_0_start_of_a_copy_over_a_day : shown_upto 3 0 [] (codes "version = 3\nhorizon = 1000\n[[queue]]\nname = \"q\"\n[[queue]]\nname = \"p\"\n[[actor]]\nname = \"c\"\nkind = \"consumer\"\nqueue = \"q\"\nservice_min_ms = 1\nservice_max_ms = 1\ncopies = 0\nscaler = \"x\"\nscaler_start_ms = 86400001\n[[actor]]\nname = \"x\"\nkind = \"scaler\"\nqueue = \"q\"\nevery_s = 60\nvisible_per_copy = 10\ncopies_max = 5\n")
+    ≡ refused (codes "refused 14 OutOfRange at actor[0].scaler_start_ms\n")
+unfolding reading_on_literals running_on_literals columns_of
+case_0_start_of_a_copy_over_a_day = refl
+
+-- faults-3/start_of_a_copy_without_a_scaler.toml
+case_0_start_of_a_copy_without_a_scaler : shown_upto 3 0 [] (codes "version = 3\nhorizon = 1000\n[[queue]]\nname = \"q\"\n[[queue]]\nname = \"p\"\n[[actor]]\nname = \"x\"\nkind = \"scaler\"\nqueue = \"q\"\nevery_s = 60\nvisible_per_copy = 10\ncopies_max = 5\n[[actor]]\nname = \"c\"\nkind = \"consumer\"\nqueue = \"q\"\nservice_min_ms = 1\nservice_max_ms = 1\ncopies = 2\nscaler_start_ms = 5\n")
+    ≡ refused (codes "refused 11 UnknownKey at actor[1].scaler_start_ms\n")
+unfolding reading_on_literals running_on_literals columns_of
+case_0_start_of_a_copy_without_a_scaler = refl
+
 -- faults-3/stop_after_the_other_keys.toml
 case_0_stop_after_the_other_keys : shown_upto 3 0 [] (codes "version = 3\nhorizon = 1000\n[[queue]]\nname = \"q\"\n[[queue]]\nname = \"f.fifo\"\n[[actor]]\nname = \"c\"\nkind = \"consumer\"\nqueue = \"q\"\nservice_min_ms = 1\nservice_max_ms = 1\nidle_ms = 0\nstop_ms = -1\n")
     ≡ refused (codes "refused 14 OutOfRange at actor[0].idle_ms\n")

@@ -88,7 +88,10 @@ pub enum Detail {
     /// The number of messages that a task moved.
     Moved(u64),
     /// How many copies of a consumer asked for messages, and how many do from now on.
-    Copies { from: u32, to: u32 },
+    Copies {
+        from: u32,
+        to: u32,
+    },
     /// The number of a queue's messages in each state.
     Counts {
         visible: u64,

@@ -35,12 +35,7 @@ impl Core {
     /// A scaler changes how many copies ask. This makes a row. The only error is `Memory`.
     #[inline(never)]
     #[tactic(auto, unfolding(sqs_model::specs::Acts::act_made))]
-    pub fn scale(
-        &mut self,
-        handling: &mut Handling<'_>,
-        from: u32,
-        to: u32,
-    ) -> Result<(), Refusal>
+    pub fn scale(&mut self, handling: &mut Handling<'_>, from: u32, to: u32) -> Result<(), Refusal>
         ensures { DoesAct result handling.old handling.new self.old self.new
             (acts.Scale from to) }
     {
