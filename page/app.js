@@ -101,12 +101,12 @@ function runAlone(...chosen) {
   setText(byId('waits'), why);
 }
 
-// The numbers of the text that is edited, and whether its version is a preview; a long text has none.
+// The numbers of the text that is edited, and whether it has version 3; a long text has none.
 /** @param {boolean} isFresh */
 function showNumbers(isFresh) {
   const scenario = editor.isShort ? new Scenario(editor.text) : null;
-  setText(byId('preview-note'), scenario && versionOf(scenario) > 2
-    ? 'This scenario has version 3, a preview: its keys and rules may still change.' : '');
+  setText(byId('version-note'), scenario && versionOf(scenario) > 2
+    ? 'This scenario has version 3, which the program reads with --v3.' : '');
   if (scenario) numbers.show(scenario, isFresh);
   else numbers.clear();
 }

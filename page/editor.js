@@ -181,7 +181,7 @@ export class Editor {
   /** @param {Key} key */
   aboutKey(key) {
     return [element('code', { textContent: key.name }), ` ${key.about}${rangeText(key)}`,
-      key.since > 2 ? ' It is new in version 3, a preview.' : ''];
+      key.since > 2 ? ' It is new in version 3.' : ''];
   }
 
   /** @param {Key[]} keys @param {string} what @param {string[]} there @param {string} word */

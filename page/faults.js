@@ -20,11 +20,14 @@ export const REQUIRED = 'required';
 // What one may write first for a list that is the value of a key.
 /** @type {Record<string, string>} */
 export const FIRST_LISTS = { 'a list of whole numbers': '[1]', 'a list of pairs [permille, ms]': '[[0, 1], [1000, 1]]',
-  'a list of pairs [group, weight]': '[["g", 1]]' };
+  'a list of pairs [group, weight]': '[["g", 1]]', 'a list of pairs [visible, copies]': '[[100, 1]]' };
 const NUMBER_OR_NUMBERS = 'a whole number or a list of whole numbers';
 /** @param {Key} key */
 export const mayBeNumber = key => key.kind === NUMBER || key.kind === NUMBER_OR_NUMBERS;
-const NAME_MOST = 80, COPIES_MOST = 1000n, PREVIEW = 3;
+const NAME_MOST = 80, COPIES_MOST = 1000n, VERSION_3 = 3;
+// The kinds of actors that may have copies.
+/** @type {unknown[]} */
+const COPIED = ['producer', 'consumer'];
 
 // A value for a message.
 /** @param {unknown} value */
@@ -178,7 +181,7 @@ export class Fault {
 /** @param {Key | undefined} key */
 export function rangeText(key) {
   if (!key) return '';
-  if (key.name === 'version') return ' It is 1 or 2, or 3, a preview, for the word --preview.';
+  if (key.name === 'version') return ' It is 1 or 2, or 3 for the word --v3.';
   if (RULES.lists[key.kind]) {
     const each = key.items ? `, each from ${grouped(key.items[0])} to ${grouped(key.items[1])}` : '';
     return ` It has ${grouped(key.low ?? 0)} to ${grouped(key.high ?? 0)} ${RULES.lists[key.kind]}${each}.`;
@@ -234,11 +237,8 @@ function unknownKey(fault) {
     const wanted = key?.startsWith('latency_') ? latency : 'no such key';
     return `${key} is a key of version ${of}; version ${fault.version} has ${wanted}.`;
   }
-  for (const kind of fault.of === 'actor' ? ACTORS : []) {
-    if (fault.keysIn(kind, fault.version).some(({ name }) => name === key)) {
-      return `${key} is a key of a ${kind}, and ${title} is none.`;
-    }
-  }
+  const kinds = ACTORS.filter(kind => fault.keysIn(kind, fault.version).some(({ name }) => name === key));
+  if (fault.of === 'actor' && kinds.length) return `${key} is a key of a ${kinds.join(' or ')}, and ${title} is none.`;
   const known = fault.keys.filter(({ queues }) => !queues || (queues === 'FIFO') === fault.isFifo());
   const names = known.map(({ name }) => name);
   return `${shown(key)} is no key of ${title}; it has ${names.join(', ')}.${nearest(key, names)}`;
@@ -324,7 +324,7 @@ function outOfRange(fault) {
   if (key === 'queue' && !fault.of) return 'A scenario has at least one queue.';
   if (fault.item !== null) return itemOutOfRange(fault);
   if (RULES.lists[found?.kind ?? ''] || node?.type === 'list') return wrongLength(fault);
-  if (key === 'kind' && ACTORS.includes(value)) return `${text} A ${value} is an actor of version ${PREVIEW}.`;
+  if (key === 'kind' && ACTORS.includes(value)) return `${text} A ${value} is an actor of version ${VERSION_3}.`;
   if (key === 'kind') return `${text}${rangeText(found)}${nearest(value, found?.words ?? ACTORS)}`;
   if (key === 'body') return `${text} It has 1 byte at least for the first message, and 1,024 at most for the last.`;
   if (key === 'script') {
@@ -346,7 +346,7 @@ function outOfRange(fault) {
 function copiesOf(fault, item) {
   const count = said(item, 'copies');
   const isCount = typeof count === 'bigint' && count >= 1n && count <= COPIES_MOST;
-  return fault.version < PREVIEW || said(item, 'kind') !== 'consumer' || !isCount ? []
+  return fault.version < VERSION_3 || !COPIED.includes(said(item, 'kind')) || !isCount ? []
     : Array.from({ length: Number(count) }, (_, i) => `${said(item, 'name')}-${i + 1}`);
 }
 
@@ -373,7 +373,9 @@ function takenBefore(fault) {
       if (typeof name !== 'string') continue;
       const [line] = scenario.lineAndColumn(item.value.get('name').key);
       has(name, `The ${of} in line ${line}`);
-      if (of === 'actor') for (const copy of copiesOf(fault, item)) has(copy, `A copy of the consumer in line ${line}`);
+      if (of !== 'actor') continue;
+      const copied = `A copy of the ${said(item, 'kind')} in line ${line}`;
+      for (const copy of copiesOf(fault, item)) has(copy, copied);
     }
   }
   return taken;

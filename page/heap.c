@@ -79,8 +79,8 @@ Tried rattle_realloc(u8 *p, u64 kept, u64 n, u64 align) {
 
 // The exports: room for so many bytes, 0 where memory is refused; a rehearsal; and a comparison of two. One that traps
 // leaves memory half written. The helpers of rattle-link say whether one is under way, so that a call after it traps
-// too. Version 3 of scenarios is read only if the preview is asked for, and figures are written only if they are. Of the
-// script files, `files` has the name of each and the file behind it, and `lengths` how long both are.
+// too. Version 3 of scenarios is read only if `preview` asks for it, and figures are written only if they are asked for.
+// Of the script files, `files` has the name of each and the file behind it, and `lengths` how long both are.
 _Bool __rattle_enter(void);
 void __rattle_leave(void);
 void __rattle_trap(void);

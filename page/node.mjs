@@ -13,20 +13,20 @@ import { WHOLE_RUN, answered, lineOf } from './simulator.js';
 
 const TOP = path.dirname(path.dirname(fs.realpathSync(fileURLToPath(import.meta.url))));
 const PAGE = path.join(TOP, 'dist', 'playground.html');
-const USAGE = `Usage: sqs_rehearse run [--log FILE] [--scripts DIR] [--preview] [--figures] [--from MS] [--to MS]
-                        [--backlog N] [--window-figures MS] [--quiet] [SCENARIO]
-       sqs_rehearse check [--scripts DIR] [--preview] [SCENARIO]
-       sqs_rehearse compare [--scripts DIR] [--preview] FIRST SECOND
+const USAGE = `Usage: sqs_rehearse run [--log FILE] [--scripts DIR] [--v3] [--figures] [--from MS] [--to MS] [--backlog N]
+                        [--window-figures MS] [--quiet] [SCENARIO]
+       sqs_rehearse check [--scripts DIR] [--v3] [SCENARIO]
+       sqs_rehearse compare [--scripts DIR] [--v3] FIRST SECOND
 
 Rehearses a scenario, checks one, or compares the reports of two, by the module of the page. docs/FORMATS.md has what
-goes in and what comes out, and the statuses.
+goes in and what comes out, and the statuses. --preview is the former name of --v3.
 `;
 // The options of each command: those with a value that is a text, with one that is a number, and those without.
-const SCRIPTS = { texts: ['scripts'], numbers: [], flags: ['preview'], least: 0, most: 1 };
+const SCRIPTS = { texts: ['scripts'], numbers: [], flags: ['v3', 'preview'], least: 0, most: 1 };
 const COMMANDS = { check: SCRIPTS, compare: { ...SCRIPTS, least: 2, most: 2 },
   run: { ...SCRIPTS, texts: ['scripts', 'log', 'map'],
     numbers: ['window', 'parts', 'workers', 'from', 'to', 'backlog', 'window-figures'],
-    flags: ['figures', 'preview', 'quiet'] } };
+    flags: ['figures', 'v3', 'preview', 'quiet'] } };
 // What asks for figures.
 const OF_FIGURES = ['figures', 'from', 'to', 'backlog', 'window-figures'];
 const NUMBER_MOST = 2n ** 64n - 1n;
@@ -127,7 +127,7 @@ function optionsOf(command, words) {
   const { texts, numbers, flags, least, most } = COMMANDS[command], options = { paths: [], scripts: '.' };
   const usage = line => new Stop(2, `error: ${line}\n\n${USAGE.trimEnd()}`);
   for (let at = 0, isAtEnd = false; at < words.length; at++) {
-    const [, name, , value] = isAtEnd ? [] : /^--([a-z][a-z-]*)(=([^]*))?$/.exec(words[at]) ?? [];
+    const [, name, , value] = isAtEnd ? [] : /^--([a-z][a-z0-9-]*)(=([^]*))?$/.exec(words[at]) ?? [];
     if (words[at] === '--' && !isAtEnd) isAtEnd = true;
     else if (!name && (isAtEnd || !/^-./.test(words[at]))) options.paths.push(words[at]);
     else if (flags.includes(name) && value === undefined) options[name] = true;
@@ -138,6 +138,9 @@ function optionsOf(command, words) {
   if (options.paths.length < least || options.paths.length > most) throw usage(`${command} takes other words`);
   return options;
 }
+
+// Whether the options ask for version 3 of scenarios: by --v3, or by its former name.
+const asksForVersion3 = ({ v3 = false, preview = false }) => v3 || preview;
 
 // What is wanted of figures by the options of a run; null if it asks for none.
 function wantedBy(options) {
@@ -168,15 +171,16 @@ function refusal(code, bytes) {
   return new Stop(number < IN_RUN ? 1 : number < OF_WRITING ? 3 : 4, line);
 }
 
-// The bytes of a run, or why it is refused. Version 3 is read only if the preview is asked for.
-async function ran(compiled, text, files, isPreview, figures = null) {
-  const { code, bytes } = await answered(compiled, 'rehearse', { isPreview, figures }, [text], files);
+// The bytes of a run, or why it is refused. Version 3 is read only if it is asked for.
+async function ran(compiled, text, files, readsVersion3, figures = null) {
+  const { code, bytes } = await answered(compiled, 'rehearse', { readsVersion3, figures }, [text], files);
   if (code !== DONE) throw refusal(code, bytes);
   return Buffer.from(bytes.buffer, bytes.byteOffset, bytes.length);
 }
 
-async function run(compiled, { paths: [name = '-'], scripts, log, preview = false, ...options }) {
-  const text = read(name), whole = await ran(compiled, text, filesOf([text], scripts), preview, wantedBy(options));
+async function run(compiled, { paths: [name = '-'], scripts, log, ...options }) {
+  const text = read(name), files = filesOf([text], scripts);
+  const whole = await ran(compiled, text, files, asksForVersion3(options), wantedBy(options));
   if (log === undefined) return write(1, whole);
   let file;
   try {
@@ -198,10 +202,10 @@ function leastOf(text) {
   return latencies.length ? latencies.reduce((a, b) => b < a ? b : a) : said(scenario.top, 'horizon') + 1n;
 }
 
-async function check(compiled, { paths: [name = '-'], scripts, preview = false }) {
+async function check(compiled, { paths: [name = '-'], scripts, ...options }) {
   const text = read(name);
   try {
-    await ran(compiled, text, filesOf([text], scripts), preview);
+    await ran(compiled, text, filesOf([text], scripts), asksForVersion3(options));
   } catch (error) {
     // what a run alone is refused for is no fault of the scenario
     if (!(error instanceof Stop) || error.status === 1) throw error;
@@ -213,17 +217,17 @@ async function check(compiled, { paths: [name = '-'], scripts, preview = false }
   write(1, Buffer.from(`ok ${counts.join(' ')} least=${leastOf(text.toString())}\n`));
 }
 
-async function compare(compiled, { paths, scripts, preview = false }) {
-  const first = read(paths[0]);
+async function compare(compiled, { paths, scripts, ...options }) {
+  const first = read(paths[0]), readsVersion3 = asksForVersion3(options);
   let second;
   try {
     second = read(paths[1]);
   } catch (error) {
-    await ran(compiled, first, filesOf([first], scripts), preview);
+    await ran(compiled, first, filesOf([first], scripts), readsVersion3);
     throw error;
   }
   const texts = [first, second];
-  const { code, bytes } = await answered(compiled, 'compare', { isPreview: preview }, texts, filesOf(texts, scripts));
+  const { code, bytes } = await answered(compiled, 'compare', { readsVersion3 }, texts, filesOf(texts, scripts));
   if (code !== DONE) throw refusal(code === SECOND_REFUSED ? 1 : code, bytes);
   write(1, bytes);
 }

@@ -30,7 +30,7 @@ function rowsOf(actor, horizon, files) {
   const left = Math.max(0, horizon - numberIn(actor, 'start_ms', 0));
   if (kind === 'producer') {
     const gap = (numberIn(actor, 'gap_min_ms', 1) + numberIn(actor, 'gap_max_ms', 1)) / 2;
-    return ROWS_OF_MESSAGE * Math.min(numberIn(actor, 'count', 1), left / Math.max(1, gap) + 1);
+    return copies * ROWS_OF_MESSAGE * Math.min(numberIn(actor, 'count', 1), left / Math.max(1, gap) + 1);
   }
   if (kind === 'consumer') {
     return copies * left / Math.max(1, numberIn(actor, 'idle_ms', REST) + 1000 * numberIn(actor, 'wait_s', 0));

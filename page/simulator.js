@@ -7,7 +7,7 @@
  * @typedef {{ from: bigint, until: bigint, backlog: bigint, window: bigint }} Wanted
  */
 /** Whether version 3 is read, and which figures follow the report, if any.
- * @typedef {{ isPreview: boolean, figures?: Wanted | null }} Choice */
+ * @typedef {{ readsVersion3: boolean, figures?: Wanted | null }} Choice */
 /**
  * What the module exports: a room of so many bytes, where it is; and two calls, which give a code.
  * @typedef {{ memory: WebAssembly.Memory, room(size: bigint): bigint,
@@ -55,9 +55,9 @@ function laidOut(files) {
 
 // A choice as the module is given it: two bytes that say whether, and four numbers.
 /** @param {Choice} choice */
-function packedChoice({ isPreview, figures = null }) {
+function packedChoice({ readsVersion3, figures = null }) {
   const { from, until, backlog, window } = figures ?? WHOLE_RUN, packed = new Uint8Array(40);
-  packed.set([Number(isPreview), Number(figures !== null)]);
+  packed.set([Number(readsVersion3), Number(figures !== null)]);
   new BigUint64Array(packed.buffer, 8).set([from, until, backlog, window]);
   return packed;
 }
@@ -79,7 +79,7 @@ export async function answered(compiled, call, choice, texts, files) {
   const { whole, lengths } = laidOut(files), parts = [...texts.map(encoded), whole];
   for (let wanted = ROOM; ;) {
     const { it, room, size } = await roomy(compiled, wanted), needed = placed(it, new Uint8Array(8));
-    const chosen = call === 'rehearse' ? placed(it, packedChoice(choice)) : Number(choice.isPreview);
+    const chosen = call === 'rehearse' ? placed(it, packedChoice(choice)) : Number(choice.readsVersion3);
     const given = [...parts.flatMap(part => [placed(it, part), BigInt(part.length)]), placed(it, lengths)];
     const began = performance.now(), code = it[call](chosen, ...given, BigInt(files.length), room, size, needed);
     const took = performance.now() - began;

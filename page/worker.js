@@ -3,7 +3,7 @@
 // { id, module }, { id, text, files }, { id, texts, files } for a comparison, { id, over } for what the last run tells
 // over time, { id, moments } for its numbers at moments, and { id, text, files, over } for a run of which no row is
 // wanted, over time. It answers each with { id, ... }. A text may be its bytes; the script files are a list of
-// { name, bytes }. Version 3 of scenarios, a preview, is read unless `preview` is false.
+// { name, bytes }. Version 3 of scenarios is read unless `version3` is false.
 
 import { momentsOf } from './moments.js';
 import { overTime } from './overtime.js';
@@ -12,7 +12,7 @@ import { DONE, SECOND_REFUSED, WHOLE_RUN, answered, lineOf, toldOf } from './sim
 
 /** @typedef {import('./simulator.js').File} File */
 /**
- * @typedef {{ module?: Uint8Array, text?: string, texts?: string[], files?: File[], preview?: boolean,
+ * @typedef {{ module?: Uint8Array, text?: string, texts?: string[], files?: File[], version3?: boolean,
  *   over?: import('./overtime.js').Over & { names: string[] },
  *   moments?: import('./moments.js').MomentQuestion }} Question
  */
@@ -33,10 +33,11 @@ let compiled;
 /** @type {Run | null} */
 let last = null;
 
-/** @param {string} text @param {File[]} files @param {boolean} isPreview */
-async function run(text, files, isPreview) {
+/** @param {string} text @param {File[]} files @param {boolean} readsVersion3 */
+async function run(text, files, readsVersion3) {
   last = null;
-  const { code, took, bytes } = await answered(compiled, 'rehearse', { isPreview, figures: WHOLE_RUN }, [text], files);
+  const choice = { readsVersion3, figures: WHOLE_RUN };
+  const { code, took, bytes } = await answered(compiled, 'rehearse', choice, [text], files);
   if (code !== DONE) return { code, took, line: lineOf(code, bytes) };
   const began = performance.now();
   last = new Run(bytes);
@@ -47,25 +48,25 @@ async function run(text, files, isPreview) {
 }
 
 // The comparison of two scenarios; or the line of the one that is refused, and whether it is the second.
-/** @param {string[]} texts @param {File[]} files @param {boolean} isPreview */
-async function compare(texts, files, isPreview) {
-  const { code, bytes } = await answered(compiled, 'compare', { isPreview }, texts, files);
+/** @param {string[]} texts @param {File[]} files @param {boolean} readsVersion3 */
+async function compare(texts, files, readsVersion3) {
+  const { code, bytes } = await answered(compiled, 'compare', { readsVersion3 }, texts, files);
   return code === DONE ? { code, bytes } : { code, line: lineOf(code, bytes), isSecond: code === SECOND_REFUSED };
 }
 
 /** @param {Question} question @returns {Promise<Partial<Answer>>} */
-async function answerTo({ module, text, texts, files = [], over, moments, preview = true }) {
+async function answerTo({ module, text, texts, files = [], over, moments, version3 = true }) {
   if (module) {
     compiled = await WebAssembly.compile(module);
     return {};
   }
   if (moments) return { moments: last ? momentsOf(last, moments) : { queues: [], rows: [] } };
-  if (texts) return compare(texts, files, preview);
+  if (texts) return compare(texts, files, version3);
   if (text !== undefined && over) {
-    const { code, values, busy } = await run(text, files, preview);
+    const { code, values, busy } = await run(text, files, version3);
     return last ? { code, values, busy, queues: overTime(last, over.names, over) } : { code };
   }
-  return over ? { queues: last ? overTime(last, over.names, over) : [] } : run(text ?? '', files, preview);
+  return over ? { queues: last ? overTime(last, over.names, over) : [] } : run(text ?? '', files, version3);
 }
 
 /** @param {Question & { id: number }} data */

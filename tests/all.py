@@ -9,7 +9,8 @@ tests/late and a part of tests/long are left out. --only runs the named parts. -
 by default one for each processor that this process may use. --beside runs so many loops beside the parts, each of which
 takes all that it can get of a processor: so a part shows whether it hangs on luck. --quick takes a minute or two on 4
 processors: it leaves out wrong-bodies, long, test_clusters, test_slurm, test_picture, memory, late, huge, test_console,
-test_package, test_poison, test_statistics, test_decisions, test_helps, test_shown, test_older and page, the longest.
+test_package, test_poison, test_invocations, test_statistics, test_decisions, test_helps, test_shown, test_older and
+page, the longest.
 
 A part is a program in tests/, tools/layers --check, tests/wrong-bodies/test_run.py or a file tests/tools/test_*.py. A
 program in tests/ is given PROGRAM, and its last line is `N passed, M failed`. The line of a part has what passed and
@@ -51,13 +52,14 @@ WITHOUT_PROGRAM = ("texts", "style", "house", "types", "examples", "layers", "wr
 SECONDS = {"wrong-bodies": 90, "page": 70, "memory": 60, "questions": 50, "test_clusters": 50, "long": 40,
            "test_picture": 32, "test_slurm": 25, "late": 20, "test_statistics": 20, "test_helps": 17,
            "test_package": 16, "test_console": 15, "underway": 15, "test_all": 14, "huge": 13, "test_shown": 12,
-           "groups": 10, "reach": 20, "test_poison": 10, "test_summary": 10, "fuzz": 9, "test_decisions": 9, "test_from_plan": 9,
+           "groups": 10, "reach": 20, "test_poison": 10, "test_invocations": 10, "test_summary": 10, "fuzz": 9,
+           "test_decisions": 9, "test_from_plan": 9,
            "run": 8, "test_build": 8, "test_reference": 8, "test_runs": 8, "test_sweeps": 8, "terminal": 10, "bell": 9,
-           "types": 7, "test_older": 30, "test_programs": 30, "test_ends": 8, "test_curves": 7, "test_report": 6, "test_settling": 6,
-           "test_sweep": 5, "test_types": 5, "test_quantiles": 5, "test_arrivals": 4, "test_doors": 4}
+           "types": 7, "test_older": 30, "test_programs": 30, "test_ends": 8, "test_curves": 7, "test_report": 6,
+           "test_settling": 6, "test_sweep": 5, "test_types": 5, "test_quantiles": 8, "test_arrivals": 4, "test_doors": 4}
 NOT_QUICK = ("wrong-bodies", "long", "test_clusters", "test_slurm", "test_picture", "memory", "late", "huge",
-             "test_console", "test_package", "test_poison", "test_statistics", "test_decisions", "test_helps",
-             "test_shown", "test_older", "page")
+             "test_console", "test_package", "test_poison", "test_invocations", "test_statistics", "test_decisions",
+             "test_helps", "test_shown", "test_older", "page")
 END_WITH_PARENT, SET_CHILD_SUBREAPER = 1, 36    # of prctl(2)
 LOOK_SECONDS, GRACE_SECONDS = 0.02, 3
 ENDING = (signal.SIGINT, signal.SIGTERM, signal.SIGHUP)

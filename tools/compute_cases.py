@@ -108,7 +108,7 @@ def ran(name: str, shown: str, text: bytes, out: bytes) -> tuple[int, str]:
 
 def shown_by(case: Case) -> str:
     """What shows a case: with texts of version 3, or with those of released versions alone."""
-    return VERSION_3 if case.is_preview else "shown"
+    return VERSION_3 if case.is_version_3 else "shown"
 
 
 def lemma(case: Case, number: int, most: int) -> str | None:

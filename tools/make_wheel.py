@@ -10,7 +10,7 @@ import zipfile
 from typing import Any
 
 HERE = pathlib.Path(__file__).resolve().parent
-FILES = "rehearse_tools/*.py", "rehearse_tools/facts/*.csv"
+FILES = "rehearse_tools/*.py", "rehearse_tools/*.html", "rehearse_tools/facts/*.csv"
 
 
 def record_of(name: str, data: bytes) -> tuple[str, str, int]:

@@ -18,7 +18,7 @@ WHOLE_WORDS = ".nh"
 # How a page is set: flush left on a terminal, and one space after a sentence, as in the help texts.
 SETTING = [".if n .ad l", ".ss 12 0", WHOLE_WORDS]
 # What is bold in a text; and what is bold or slanted in a synopsis, where a word in capitals stands for another.
-BOLD = re.compile(r"`[^`]*`|(?<![\w-])--?[a-z][a-z-]*")
+BOLD = re.compile(r"`[^`]*`|(?<![\w-])--?[a-z][a-z0-9-]*")
 MARKED = re.compile(rf"(?P<bold>{BOLD.pattern})|(?P<slanted><[a-z]+>|(?<![\w.])[A-Z][A-Z0-9]*(?:\.[A-Za-z]+)*(?!\w))")
 # What stays in one line of a synopsis.
 TOGETHER = re.compile(r"\[[^\]]*\]|'[^']*'|\S+")

@@ -46,8 +46,8 @@ class Case(NamedTuple):
         return f"{self.folder}/{self.name}"
 
     @property
-    def is_preview(self) -> bool:
-        """Whether it is run with the word --preview."""
+    def is_version_3(self) -> bool:
+        """Whether it is of version 3, and run with the word --v3."""
         return self.folder.endswith("-3")
 
     @property

@@ -579,14 +579,23 @@ class Wakes:
         return self.visible[bisect.bisect_left(self.keys, (at, number))]
 
 
+def asked_for(scaler: Table, visible: int) -> int:
+    """How many copies so many visible messages ask for: one for each so many of them, or as many as the first step says
+    that has so many."""
+    if "steps" not in scaler:
+        whole, part = divmod(visible, scaler["visible_per_copy"])
+        return int(whole + (part > 0))
+    steps = [*scaler["steps"], [NEVER, scaler["copies_max"]]]
+    return int(steps[[visible <= most for most, _ in steps].index(True)][1])
+
+
 def changes_of(scaler: Table, wakes: Wakes, horizon: int) -> Iterator[tuple[int, str]]:
     """When a scaler changes how many copies ask, and both numbers as a row tells them."""
     number, reading = scaler["number"], 1000 * scaler.get("reading_s", 0)
     copies, changed = scaler.get("copies_min", 1), 0
     for read_at in range(scaler.get("start_ms", 0), horizon - reading + 1, 1000 * scaler["every_s"]):
         visible, now = wakes.visible_before(read_at, number), read_at + reading
-        whole, part = divmod(visible, scaler["visible_per_copy"])
-        wanted = min(scaler["copies_max"], max(scaler.get("copies_min", 1), whole + (part > 0)))
+        wanted = min(scaler["copies_max"], max(scaler.get("copies_min", 1), asked_for(scaler, visible)))
         after = copies
         if wanted > copies and now >= changed + 1000 * scaler.get("cooldown_out_s", 0):
             after = min(wanted, copies + scaler.get("added_max", 1000))

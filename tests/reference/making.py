@@ -17,11 +17,13 @@ EDITED_LINES = ["speed = 1", 'name = "q0"', "delay_s = -1", "hosts = 17", "body 
                 "fails_permille = 10", 'backoff_jitter = "full"', "heartbeat_s = 1", "fail_service_ms = 7",
                 "service = [[0, 1], [1000, 5]]", "backoff_s = []", "gap = 7", 'forward = ["q0"]',
                 "fails_permille = [1, 2]", 'key_groups = [["g", 1]]', 'scaler = "x0"', "scaler_start_ms = 7", "every_s = 3",
-                "reading_s = 2", "copies_min = 1", "copies_max = 0", "added_max = 0", "cooldown_in_s = 86401"]
+                "reading_s = 2", "copies_min = 1", "copies_max = 0", "added_max = 0", "cooldown_in_s = 86401",
+                "steps = [[0, 1], [9, 1000]]", "visible_per_copy = 3"]
 EDITED_VALUES = ["-1", "0", "1", "3", "901", "43201", "99999999999", "9223372036854775807", "1.5", "true", '""',
                  '"abc"', '"a b"', "[]", "{}", "1979-05-27", '"q0"', '"q1.fifo"', '"script"', '"producer"',
                  '"consumer"', '"scaler"', '"x0"', "[[0, 1], [0, 2], [1000, 3]]", "[[0, 5], [1000, 4]]", "[[0, 1], [999, 2]]", "[1, 2]",
-                 '[["g", 0]]', '[["g h", 1]]', "[[1000, 1], [0, 1]]", '"once"', '"full"', "[[9, 8]]"]
+                 '[["g", 0]]', '[["g h", 1]]', "[[1000, 1], [0, 1]]", '"once"', '"full"', "[[9, 8]]",
+                 "[[5, 1], [5, 2]]", "[[7, 1001]]"]
 EDITED_FIELDS = ["", "01", "-1", "11", "99999999999", "21", "k0", '"', 'a"b', "4294967295", "4294967296", "é"]
 EDITED_TOPS = ["task = 3", "actor = {}", "queue = []", "actor = [1]", "task = [{}]", "extra = 1", "seed = -1"]
 
@@ -156,11 +158,19 @@ class Maker:
         return table("actor", {
             "name": self.scalers[home], "kind": "scaler", "queue": self.names[home],
             "start_ms": self.rarely(0.5, [0, 1, 100, 999, 1000]), "every_s": every,
-            "reading_s": self.rarely(0.4, range(min(every, 20))), "visible_per_copy": self.one([1, 1, 2, 5]),
+            "reading_s": self.rarely(0.4, range(min(every, 20))), **self.target(),
             "copies_min": least, "copies_max": (1 if least is None else least) + self.one([0, 1, 1, 2, 5, 900]),
             "added_max": self.rarely(0.4, [1, 1, 2, 1000]), "taken_max": self.rarely(0.4, [1, 1, 2, 1000]),
             "cooldown_out_s": self.rarely(0.4, [0, 1, 2, every, 10]),
             "cooldown_in_s": self.rarely(0.4, [0, 1, 2, every, 10])})
+
+    def target(self) -> dict[str, object]:
+        """How many copies a scaler wants: by the number of visible messages, or by steps, which need not ascend in
+        copies."""
+        if self.random.random() < 0.6 or "steps" in self.without:
+            return {"visible_per_copy": self.one([1, 1, 2, 5])}
+        visible = sorted(self.random.sample([0, 0, 1, 2, 3, 5, 8, 20], self.one([1, 2, 2, 3])))
+        return {"steps": [[it, self.one([0, 0, 1, 2, 3, 1000])] for it in dict.fromkeys(visible)]}
 
     def quantiles(self, times: Sequence[int]) -> list[list[int]]:
         """Two to five pairs whose times are among these, with equal ones."""
@@ -194,6 +204,7 @@ class Maker:
             keys["ids"] = self.rarely(0.5, [True, False])
         if self.version == 3:
             keys["stop_ms"] = self.rarely(0.3, [self.moment(start)])
+            keys["copies"] = self.rarely(0.2, [1, 2, 2, 3])
         return keys
 
     def consumer(self, home: int) -> dict[str, object]:

@@ -6,11 +6,11 @@ from typing import Any
 
 from faults import Fault
 from scripts import ScriptFault, calls_of
-from settings import (ActorSettings, Bounds, ByQuantiles, Call, ConsumerSettings, Forwarding, Latency, Outage, Policy,
-                      ProducerSettings, QueueSettings, Role, ScalerSettings, Scaling, Scenario, ScriptSettings,
-                      TaskSettings, Time)
+from settings import (ActorSettings, Bounds, ByQuantiles, Call, ConsumerSettings, Forwarding, Latency, Outage, PerCopy,
+                      Policy, ProducerSettings, QueueSettings, Role, ScalerSettings, Scaling, Scenario, ScriptSettings,
+                      Steps, Target, TaskSettings, Time)
 from tables import (MOST_DAY, MOST_TIME, Table, boolean, document_of, integer, list_of, one_of, one_or_each, one_or_more,
-                    quantiles, sized_text, stretch, tables, text, weighted_group)
+                    quantiles, sized_text, steps, stretch, tables, text, weighted_group)
 
 MOST_AGENTS, MOST_QUEUES, MOST_FORWARDS, LONGEST_NAME = 10_000, 1_000, 10, 80
 AGENT_NAME = re.compile(r"[A-Za-z0-9_-]{1,80}")
@@ -23,12 +23,13 @@ QUEUE_NUMBERS = {"visibility_s": (0, 43_200, 30), "delay_s": (0, 900, 0), "reten
 # The keys that each consumer of version 3 may have besides.
 NEW_CONSUMER_KEYS = ["gather_ms", "stop_ms", "batch_service", "fails_on", "batch_fails", "backoff_s", "copies",
                      "scaler"]
-# The numbers of a scaler, in the order in which they are read: their ranges and defaults. A bound may be another number.
-SCALER_NUMBERS: dict[str, tuple[int | str, int | str, int | None]] = {
-    "start_ms": (0, MOST_TIME, 0), "every_s": (1, 86_400, None), "reading_s": (0, "every_s", 0),
-    "visible_per_copy": (1, 1_000_000, None), "copies_min": (0, 1_000, 1), "copies_max": ("copies_min", 1_000, None),
-    "added_max": (1, 1_000, 1_000), "taken_max": (1, 1_000, 1_000), "cooldown_out_s": (0, 86_400, 0),
-    "cooldown_in_s": (0, 86_400, 0)}
+# The numbers of a scaler before and behind what it wants, in the order in which they are read: their ranges and defaults.
+# A bound may be another number.
+Ranges = dict[str, tuple[int | str, int | str, int | None]]
+SCALER_MOMENTS: Ranges = {"start_ms": (0, MOST_TIME, 0), "every_s": (1, 86_400, None), "reading_s": (0, "every_s", 0)}
+SCALER_BOUNDS: Ranges = {
+    "copies_min": (0, 1_000, 1), "copies_max": ("copies_min", 1_000, None), "added_max": (1, 1_000, 1_000),
+    "taken_max": (1, 1_000, 1_000), "cooldown_out_s": (0, 86_400, 0), "cooldown_in_s": (0, 86_400, 0)}
 
 
 def script_names(source: bytes) -> list[str]:
@@ -171,16 +172,14 @@ class Reader:
         home = table.required("queue", self.queue_named)
         if kind == "script":
             return ActorSettings(name, home, self.script(table, home))
-        if kind == "producer":
-            return ActorSettings(name, home, self.producer(table, self.queues[home].is_fifo))
         if kind == "scaler":
             return ActorSettings(name, home, self.scaler(table))
-        consumer = self.consumer(table, home)
+        role: ProducerSettings | ConsumerSettings
+        role = self.producer(table, home) if kind == "producer" else self.consumer(table, home)
         if self.version == 3:
-            self.read_new_keys(table, consumer, home)
-            consumer.copies = table.maybe("copies", integer(1, 1_000))
-            self.judge_copies(table.place("copies"), name, consumer.copies or 0)
-        return ActorSettings(name, home, consumer)
+            role.copies = table.maybe("copies", integer(1, 1_000))
+            self.judge_copies(table.place("copies"), name, role.copies or 0)
+        return ActorSettings(name, home, role)
 
     def script(self, table: Table, home: int) -> Role:
         table.only([*HEAD, "calls", *([] if table.has("calls") else ["script"])])
@@ -207,10 +206,12 @@ class Reader:
             record = "" if fault.record is None else f":{fault.record}"
             raise Fault(fault.number, place + record) from None
 
-    def producer(self, table: Table, is_fifo: bool) -> Role:
+    def producer(self, table: Table, home: int) -> ProducerSettings:
+        is_fifo = self.queues[home].is_fifo
         groups_key = "key_groups" if self.version == 3 and table.has("key_groups") else "groups"
         table.only([*HEAD, "count", "start_ms", *self.time_keys(table, "gap"), "body",
-                    *([groups_key, "ids"] if is_fifo else ["delay_s"]), *(["stop_ms"] if self.version == 3 else [])])
+                    *([groups_key, "ids"] if is_fifo else ["delay_s"]),
+                    *(["stop_ms", "copies"] if self.version == 3 else [])])
         count = table.required("count", integer(1, 1_000_000))
         start = table.optional("start_ms", integer(0, MOST_TIME), 0)
         gap = self.time(table, "gap")
@@ -229,17 +230,20 @@ class Reader:
         return settings
 
     def consumer(self, table: Table, home: int) -> ConsumerSettings:
-        """What versions 1 and 2 have, after the keys are judged."""
+        """What versions 1 and 2 have, after the keys are judged, and what version 3 has besides."""
         table.only([*HEAD, "start_ms", "batch", "wait_s", "timeout_s", *self.time_keys(table, "service"),
                     "fail_permille", "idle_ms", "forward", *(self.latency_keys() if table.has("forward") else []),
                     *(new_consumer_keys(table) if self.version == 3 else [])])
         start, batch = table.optional("start_ms", integer(0, MOST_TIME), 0), table.optional("batch", integer(1, 10), 1)
         gather = table.optional("gather_ms", integer(0, 300_000), 0)
-        return ConsumerSettings(
+        consumer = ConsumerSettings(
             start, batch, table.optional("wait_s", integer(0, 20), 0), table.maybe("timeout_s", integer(0, 43_200)),
             self.time(table, "service"), time_of_each(table), table.maybe("fail_service_ms", integer(0, 43_200_000)),
             table.optional("fail_permille", integer(0, 1_000), 0),
             table.optional("idle_ms", integer(1, MOST_DAY), 1_000), self.forwarding(table, home), gather)
+        if self.version == 3:
+            self.read_new_keys(table, consumer, home)
+        return consumer
 
     def forwarding(self, table: Table, home: int) -> Forwarding | None:
         if not table.has("forward"):
@@ -280,13 +284,9 @@ class Reader:
         return Scaling(table.required("scaler", number), table.optional("scaler_start_ms", integer(0, MOST_DAY), 0))
 
     def scaler(self, table: Table) -> ScalerSettings:
-        table.only([*HEAD, *SCALER_NUMBERS])
-        found: dict[str, int] = {}
-        for key, (low, high, default) in SCALER_NUMBERS.items():
-            least = found[low] if isinstance(low, str) else low
-            type_of = integer(least, found[high] - 1 if isinstance(high, str) else high)
-            found[key] = table.required(key, type_of) if default is None else table.optional(key, type_of, default)
-        return ScalerSettings(*(1000 * value if key.endswith("_s") else value for key, value in found.items()))
+        table.only([*HEAD, *SCALER_MOMENTS, "steps" if table.has("steps") else "visible_per_copy", *SCALER_BOUNDS])
+        start, every, reading = numbers_in(table, SCALER_MOMENTS)
+        return ScalerSettings(start, every, reading, target_in(table), *numbers_in(table, SCALER_BOUNDS))
 
     def judge_copies(self, place: str, name: str, copies: int) -> None:
         names = copy_names(name, copies)
@@ -320,6 +320,23 @@ def table_of(key: str, number: int, item: Any) -> Table:
     if not isinstance(item, dict):
         raise Fault(13, place)
     return Table(item, f"{place}.")
+
+
+def numbers_in(table: Table, ranges: Ranges) -> list[int]:
+    """The numbers of a scaler at these keys; times are in milliseconds."""
+    found: dict[str, int] = {}
+    for key, (low, high, default) in ranges.items():
+        least = found[low] if isinstance(low, str) else low
+        type_of = integer(least, found[high] - 1 if isinstance(high, str) else high)
+        found[key] = table.required(key, type_of) if default is None else table.optional(key, type_of, default)
+    return [1000 * value if key.endswith("_s") else value for key, value in found.items()]
+
+
+def target_in(table: Table) -> Target:
+    """How many copies a scaler wants: by its steps if they are there."""
+    if table.has("steps"):
+        return Steps(table.required("steps", steps))
+    return PerCopy(table.required("visible_per_copy", integer(1, 1_000_000)))
 
 
 def text_in(item: dict[str, Any], key: str) -> str:
@@ -375,7 +392,7 @@ def copied(actors: list[ActorSettings]) -> list[ActorSettings]:
     """The actors with their copies: the first copy of each in its place, the others behind all actors."""
     firsts, others = [], []
     for actor in actors:
-        copies = actor.role.copies if isinstance(actor.role, ConsumerSettings) else None
+        copies = actor.role.copies if isinstance(actor.role, (ConsumerSettings, ProducerSettings)) else None
         names = [actor.name] if copies is None else copy_names(actor.name, copies)
         first, *more = (replace(actor, name=name, place=place) for place, name in enumerate(names))
         firsts.append(first)

@@ -102,6 +102,7 @@ class ProducerSettings:
     delay_s: int | None = None
     key_groups: list[tuple[str, int]] | None = None
     stop: int | None = None
+    copies: int | None = None
 
     def body_of(self, number: int) -> str:
         return self.body.replace("{n}", str(number))
@@ -123,6 +124,33 @@ class Outage:
     fail_permille: int
 
 
+class Target(Protocol):
+    """How many copies so many visible messages ask for, of which there are at most `most`."""
+
+    def asked(self, visible: int, most: int) -> int:
+        ...
+
+
+@dataclass
+class PerCopy:
+    """One copy for each so many visible messages."""
+
+    messages: int
+
+    def asked(self, visible: int, most: int) -> int:
+        return -(-visible // self.messages)
+
+
+@dataclass
+class Steps:
+    """Pairs of how many visible messages there are at most, and how many copies they ask for."""
+
+    pairs: list[tuple[int, int]]
+
+    def asked(self, visible: int, most: int) -> int:
+        return next((copies for greatest, copies in self.pairs if visible <= greatest), most)
+
+
 @dataclass
 class ScalerSettings:
     """A scaler reads, every so often, how many messages are visible, and decides by that, at once or after `reading`,
@@ -131,7 +159,7 @@ class ScalerSettings:
     start: int
     every: int
     reading: int
-    visible_per_copy: int
+    target: Target
     copies_min: int
     copies_max: int
     added_max: int
@@ -140,9 +168,8 @@ class ScalerSettings:
     cooldown_in: int
 
     def wanted(self, visible: int) -> int:
-        """How many copies there ought to be for so many visible messages: one for each `visible_per_copy`, in its
-        bounds."""
-        return min(self.copies_max, max(self.copies_min, -(-visible // self.visible_per_copy)))
+        """How many copies there ought to be for so many visible messages, in its bounds."""
+        return min(self.copies_max, max(self.copies_min, self.target.asked(visible, self.copies_max)))
 
 
 @dataclass
@@ -228,3 +255,8 @@ class Scenario:
                       if isinstance(actor.role, ConsumerSettings) and actor.role.forward]
         latencies += [task.latency for task in self.tasks]
         return min((latency.least for latency in latencies), default=self.horizon + 1)
+
+    def line(self) -> str:
+        """What `check` prints of it."""
+        return (f"ok queues={len(self.queues)} actors={len(self.actors)} tasks={len(self.tasks)} "
+                f"least={self.least_latency()}")

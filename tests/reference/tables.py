@@ -187,3 +187,13 @@ def stretch(value: Any, place: str) -> range:
     first, second = pair_in(value, place)
     begin = integer(0, MOST_TIME)(first, place)
     return range(begin, integer(begin, MOST_TIME)(second, place))
+
+
+def steps(value: Any, place: str) -> list[tuple[int, int]]:
+    """Pairs [visible, copies], of which each has more visible messages than the one before it."""
+    pairs: list[tuple[int, int]] = []
+    for item, at in items_in(value, place, 1, 32):
+        first, second = pair_in(item, at)
+        visible = integer(pairs[-1][0] + 1 if pairs else 0, 1_000_000)(first, at)
+        pairs.append((visible, integer(0, 1_000)(second, at)))
+    return pairs

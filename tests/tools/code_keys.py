@@ -6,8 +6,8 @@ import re
 from collections.abc import Iterator
 
 from tool import ROOT, text_at
-from rehearse_tools.keys import (ITEMS, NUMBER, NUMBER_OR_NUMBERS, NUMBERS, QUANTILES, REQUIRED, STRETCHES, TABLES, TEXT,
-                                 TEXT_OR_TEXTS, TRUTH, WEIGHTS, Key)
+from rehearse_tools.keys import (ITEMS, NUMBER, NUMBER_OR_NUMBERS, NUMBERS, QUANTILES, REQUIRED, STEPS, STRETCHES,
+                                 TABLES, TEXT, TEXT_OR_TEXTS, TRUTH, WEIGHTS, Key)
 
 SOURCES = os.path.join(ROOT, "crates", "sim_scenario", "src")
 # A function of a file, or of an implementation of a trait for a type.
@@ -21,7 +21,7 @@ READ = re.compile(
     r'\btime\(\s*"(\w+)",\s*"(\w+)",\s*"(\w+)",\s*section,?\s*\)|'
     r'\b(queue_list|kind|policy|latency|sending|forward|calls|stopping|scaling|failing|serving|'
     r'outages|'
-    r'stretches_by|one_stretch|groups)\(')
+    r'stretches_by|one_stretch|groups|target)\(')
 # What the two bounds of a time have at most, and how many items a list has.
 TIME = re.compile(r'section\.bounds\(low, high, ([\d_]+)\)')
 ITEMS_IN = re.compile(r'list_of\(section, value, key, ([\d_]+), ([\d_]+), &\w+\)')
@@ -35,10 +35,10 @@ WORDS = {"SCOPES": ("queue", "group"), "kinds": ("script", "producer", "consumer
 LEAST = {"start": "start_ms", "from": "fails_from_ms", "least": "copies_min"}
 # The types of values that are lists, by what the tables call them, with the files that read them.
 LISTS_OF = {"WeightedGroups": (WEIGHTS, "groups.rt"), "Stretches": (STRETCHES, "outages.rt"),
-            "KinQueues": (TEXT_OR_TEXTS, "named.rt")}
+            "KinQueues": (TEXT_OR_TEXTS, "named.rt"), "Steps": (STEPS, "targets.rt")}
 # The functions that several files use, with their files.
 SHARED = {"latency": "queues.rt", "stopping": "producers.rt", "outages": "outages.rt", "stretches_by": "outages.rt",
-          "one_stretch": "outages.rt"}
+          "one_stretch": "outages.rt", "target": "targets.rt"}
 
 
 def functions(file: str) -> dict[str, str]:

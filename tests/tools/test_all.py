@@ -375,7 +375,3 @@ class Repository(ToolCase):
         named = " ".join(everything.__doc__.split()).partition("it leaves out ")[2].partition(", the longest.")[0]
         self.assertEqual(tuple(re.split(", | and ", named)), everything.NOT_QUICK)
         self.assertLessEqual({"run", "program", "questions", "fuzz", "damaged", "texts"}, set(quick))
-
-
-if __name__ == "__main__":
-    unittest.main()

@@ -4,7 +4,6 @@ import io
 import json
 import os
 import re
-import unittest
 
 from tool import TOOLS, ToolCase, needs_program, printed, text_at
 
@@ -155,8 +154,7 @@ class Arrivals(ToolCase):
         words = "poisson", "--rate", "300/s", "--duration", "500s", "--queue", "q"
         self.assertEqual(self.run_tool("arrivals", *words)[0], 2)
         os.mkdir(self.path("in"))
-        status, out, _ = self.run_tool("arrivals", *words, "--output", "in/a.csv")
-        self.assertEqual(status, 0)
+        out, _ = self.ends(0, self.run_tool("arrivals", *words, "--output", "in/a.csv"))
         actor = '[[actor]]\nname = "a-{0}"\nkind = "script"\nqueue = "q"\nscript = "a-{0}.csv"\n'
         self.assertEqual(out, "\n".join(map(actor.format, (1, 2))))
         lengths = []
@@ -166,38 +164,9 @@ class Arrivals(ToolCase):
         self.assertEqual(lengths[0], 100_000)
 
     def test_faults(self):
-        times = self.write("t.csv", "when\n1\n")
-        metric = self.write("m.json", json.dumps(METRIC))
-        self.assert_faults("arrivals", (
-                (("poisson", "--rate", "5", "--duration", "1s"), "5 is no rate, as 5/s or 300/min"),
-                (("poisson", "--rate", "0/s", "--duration", "1s"), "0/s is no rate, as 5/s or 300/min"),
-                (("poisson", "--rate", "5/s", "--duration", "9"),
-                 "9 is no time with a unit, as 90s or 2h, within 4,294,967,295 ms"),
-                (("poisson", "--rate", "9999999999/ms", "--duration", "1h"), "over 5,000,000 messages"),
-                (("poisson", "--rate", "5/s", "--duration", "5s", "--queue", 'x y"', "--output", "a.csv"),
-                 'no queue of a scenario has the name x y"'),
-                (("poisson", "--rate", "5/s", "--duration", "5s", "--side-by-side", "2"),
-                 "--side-by-side is 1 to 1000, and needs --output"),
-                (("poisson", "--rate", "5/s"), "poisson needs --duration (--help tells the usage)"),
-                (("bursts", "--size", "0", "--every", "1s", "--over", "1s", "--duration", "1s"),
-                 "--size is at least 1"),
-                (("bursts", "--size", "99999999", "--every", "1s", "--over", "1s", "--duration", "1s"),
-                 "over 5,000,000 messages"),
-                (("hours", "--numbers", "1,2", "--duration", "1d"),
-                 "--numbers has a number of messages for each of the 24 hours of a day, between commas"),
-                (("times",), "times needs a FILE (--help tells the usage)"),
-                (("times", "none"), "cannot read none: No such file or directory"),
-                (("times", times, "--column", "x"), f"{times} has no column x; it has when"),
-                (("times", times, "--group-ids", "x", "--queue", "q.fifo"), f"{times} has no column x; it has when"),
-                (("times", times, "--group-ids", "", "--queue", "q.fifo"), f"{times} has no column ''; it has when"),
-                (("times", times, "--unit", "y"), "y is no unit; units are ms, s, m, min, h, d"),
-                (("times", times, "--origin", "2"), "a time is before the origin 2"),
-                (("times", times, "--origin", "x"), "x is no time"),
-                (("times", times, "--body", ""), "the body of message 0 has not 1 to 1,024 bytes: ''"),
-                (("times", times, "--start", "4294967295", "--output", "t.csv/x"),
-                 "cannot write t.csv/x: Not a directory"),
-                (("metric", metric), f"{metric} has 2 results, of which --id names one: sent, other"),
-                (("metric", metric, "--id", "sent", "--period", "0"), "a period has 1 to 86400 seconds")))
+        self.write("t.csv", "when\n1\n")
+        self.write("m.json", json.dumps(METRIC))
+        self.assert_stored_faults("arrivals")
 
     def test_files_of_other_kinds(self):
         for data in (b"", b"\n\n", b"\x00\xff", bytes(range(256)), b"when\n", b"1\nx\n", b'1\n"2', b"1" * 5_000,
@@ -209,17 +178,15 @@ class Arrivals(ToolCase):
             self.write("given", data)
             for kind in ("times", "metric"):
                 with self.subTest(data=data[:40], kind=kind):
-                    status, out, err = self.run_tool("arrivals", kind, "given")
-                    self.assertEqual((status, out, len(err.splitlines())), (2, "", 1), err)
+                    self.refusal(self.run_tool("arrivals", kind, "given"))
 
     @needs_program
     def test_what_is_made_runs(self):
         """A standard and a FIFO queue, each with the messages of its script."""
         top = "version = 1\nhorizon = 100000\n"
         for queue in ("q", "q.fifo"):
-            status, actors, _ = self.run_tool("arrivals", "bursts", "--size", "20", "--every", "10s", "--over", "9s",
-                                              "--duration", "30s", "--queue", queue, "--output", "a.csv")
-            self.assertEqual(status, 0)
+            actors, _ = self.ends(0, self.run_tool("arrivals", "bursts", "--size", "20", "--every", "10s", "--over",
+                                                   "9s", "--duration", "30s", "--queue", queue, "--output", "a.csv"))
             scenario = self.write("s.toml", f'{top}[[queue]]\nname = "{queue}"\n{actors}')
             self.assertIn(f"\nreport,{queue},60,0,",
                           printed("run", "--scripts", self.folder, "--log", os.devnull, scenario))
@@ -232,7 +199,3 @@ class Arrivals(ToolCase):
         self.assertIn(" ".join(words), text)
         self.assertIn(script, text)
         self.assertIn(actors, text)
-
-
-if __name__ == "__main__":
-    unittest.main()

@@ -9,27 +9,14 @@ import sys
 import types
 import unittest
 
-from tool import LIMIT, ROOT, ToolCase, is_running, module_at, module_of, wait_for
+from tool import HERE, LIMIT, ROOT, ToolCase, is_running, module_at, module_of, ran, text_at, wait_for
 
 build = module_of("build")
 side_by_side = module_at(os.path.join(ROOT, "tools", "side_by_side.py"), "side_by_side")
 BUILDING = "building the program, with proofs of all that it stands on: "
 # In the place of rt: it notes its process, where it runs and its words, proves a crate as rt does and makes a program
 # that prints its words; or it fails, takes long, is killed once, or finds all proved.
-RT = """#!/bin/bash
-crate=$(basename "$PWD")
-echo "$$ $crate $*" >> "$RT_CALLS"
-case $RT_DOES in
-  "fail $crate") echo "sim_b is wrong"; exit 1 ;;
-  "slow $crate") sleep 3600 & sleep 3600 ;;
-  "killed $crate") [ -e "$RT_CALLS.killed" ] || { touch "$RT_CALLS.killed"; kill -9 $$; } ;;
-  "always killed $crate") echo "rt: the check was killed"; exit 137 ;;
-  "edit $crate") touch ../sim_a/src/lib.rt ;;
-  "wait $crate") while ! [ -e "$RT_CALLS.go" ]; do sleep 0.02; done ;;
-esac
-[ "$RT_DOES" = known ] || echo "logic=proved functions=1"
-[ "$1" = lib ] || { mkdir -p out; printf '#!/bin/sh\\necho ran "$@"\\n' > out/sqs_rehearse; chmod +x out/sqs_rehearse; }
-"""
+RT = text_at(HERE, "stand-ins", "rt")
 CRATES = "sim_a:\nsim_b: sim_a std\nsim_c: sim_a\nsqs_rehearse: sim_b sim_c\nsqs_examples: sim_b\ntest_a: sim_a\n"
 
 
@@ -270,9 +257,7 @@ class Locks(ToolCase):
 
     def run_side_by_side(self, text, *words):
         os.chmod(self.write("rt", f"#!/usr/bin/env python3\n{text}"), 0o755)
-        run = subprocess.run([sys.executable, side_by_side.__file__, self.path("rt"), *words], capture_output=True,
-                             text=True)
-        return run.returncode, run.stdout, run.stderr
+        return ran([sys.executable, side_by_side.__file__, self.path("rt"), *words])
 
     def test_the_script_of_the_kit_gets_the_locks(self):
         self.write("rtlib.py", "lock = None\n")
@@ -281,14 +266,9 @@ class Locks(ToolCase):
         self.assertEqual(self.run_side_by_side(text, "lib", "x"), (137, "locked lib x\n", ""))
 
     def test_without_words(self):
-        run = subprocess.run([sys.executable, side_by_side.__file__], capture_output=True, text=True)
-        self.assert_fault((run.returncode, run.stdout, run.stderr),
+        self.assert_fault(ran([sys.executable, side_by_side.__file__]),
                           "side_by_side.py: it takes RT and its words (--help tells the usage)")
 
     def test_another_program_runs_as_it_is(self):
         text = "import sys\nif __name__ == '__main__':\n    print(*sys.argv[1:])\n"
         self.assertEqual(self.run_side_by_side(text, "lib", "x"), (0, "lib x\n", ""))
-
-
-if __name__ == "__main__":
-    unittest.main()

@@ -153,8 +153,7 @@ class Clusters(DaskCase):
         assert process.stdout is not None
         out = "".join(process.stdout.readline() for _ in range(ROWS_BEFORE_THE_END))
         process.send_signal(signal.SIGINT)
-        status, rest, err = self.rest_of(process)
-        self.assertEqual(status, 130, err)
+        rest, err = self.ends(130, self.rest_of(process))
         self.assertEqual({line.count(",") for line in (out + rest).splitlines()}, {out.splitlines()[0].count(",")})
         self.assertRegex(err.splitlines()[-1], "sweep: interrupted after [0-9]+ of 2000 variants")
 
@@ -172,11 +171,8 @@ class Clusters(DaskCase):
 @needs_program
 class Faults(ToolCase):
     def test_words(self) -> None:
-        scenario = self.write("s.toml", SCENARIO)
-        for words, line in ((("--cluster", "host"), "host is no address of a Dask scheduler, as tcp://HOST:8786"),
-                            (("--cluster", "tcp://h:1", "--share", "1/2", "--results", "r"),
-                             "--cluster goes with runs (--help tells the usage)")):
-            self.assert_fault(self.run_tool("sweep", scenario, "--vary", "seed=1", *words), f"sweep: {line}")
+        self.write("s.toml", SCENARIO)
+        self.assert_stored_faults("clusters")
 
     def test_scripts_outside_their_folder(self) -> None:
         """What leads out of the folder of the scripts is no name of one: it is neither read nor sent."""
@@ -223,10 +219,5 @@ class Faults(ToolCase):
     @needs_dask
     def test_nobody_answers(self) -> None:
         scenario = self.write("s.toml", SCENARIO)
-        status, out, err = self.run_tool("sweep", scenario, "--vary", "seed=1", "--cluster", "tcp://127.0.0.1:9")
-        self.assertEqual((status, out, len(err.splitlines())), (2, "", 1), err)
+        err = self.refusal(self.run_tool("sweep", scenario, "--vary", "seed=1", "--cluster", "tcp://127.0.0.1:9"))
         self.assertTrue(err.startswith("sweep: cannot use the Dask scheduler at tcp://127.0.0.1:9: "), err)
-
-
-if __name__ == "__main__":
-    unittest.main()

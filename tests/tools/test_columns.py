@@ -6,12 +6,11 @@ import csv
 import io
 import json
 import math
-import subprocess
 import unittest
 from typing import Any
 
 from test_runs import OVERLOADED, random_scenario
-from tool import HEADER, PROGRAM, ToolCase, ended, needs_program, printed
+from tool import HEADER, PROGRAM, ToolCase, ended, log_at, needs_program, printed
 from scenario_texts import consumer, producer, queue_of, scenario_of, script, task
 from rehearse_tools.figures import COLUMNS as OF_FIGURES
 from rehearse_tools.figures import Figures
@@ -23,22 +22,7 @@ from rehearse_tools.summaries import ACTIONS, Reading, read_runs
 # m-0-0 is dead-lettered to d and moved back as m-0-2, and is 2 s old there when it is deleted; m-0-1 is new, and 2.5 s
 # old. m-0-3 is left, 11 s old.
 MD5 = "9dd4e461268c8034f5c8564e155c67a6"
-ROWS = f"""100,a,shop,send,new,m-0-0,,{MD5}
-200,a,w,receive,ok,m-0-0,r-0-0-1,o-0-0
-300,a,w,fail,ok,m-0-0,r-0-0-1,
-1200,a,a,redrive,out,m-0-0,,d
-1220,d,a,arrive,new,m-1-0,,o-0-0
-2500,a,shop,send,new,m-0-1,,{MD5}
-3000,d,back,move,out,m-1-0,,a
-3020,a,back,arrive,new,m-0-2,,o-0-0
-4000,a,w,receive,ok,m-0-1,r-0-1-1,o-0-1
-5000,a,w,delete,deleted,m-0-1,r-0-1-1,2500
-5001,a,w,receive,ok,m-0-2,r-0-2-1,o-0-0
-5020,a,w,delete,deleted,m-0-2,r-0-2-1,2000
-6000,a,w,receive,empty,,,
-9000,a,shop,send,new,m-0-3,,{MD5}
-"""
-TEXT = ended(HEADER + ROWS, "final,a,m-0-3,o-0-3,visible,,9000,0,,x\n")
+TEXT = ended(log_at("columns.log"), "final,a,m-0-3,o-0-3,visible,,9000,0,,x\n")
 
 
 # The scenario of this log, as far as a log is read by it.
@@ -52,10 +36,8 @@ class ByHand(ToolCase):
     def found(self, first: int = 0, text: str = TEXT, **wanted: Any) -> tuple[dict[str, dict[str, str]], dict[str, Any]]:
         """By queue the columns of the figures of a log, and their bounds."""
         figures, scenario = Figures(first, 20_000, {}, **wanted), self.write("s.toml", SCENARIO)
-        words = [PROGRAM, "figures", *figures.words()[1:], scenario, self.write("run.csv", text)]
-        ran = subprocess.run(words, capture_output=True, text=True)
-        self.assertEqual((ran.returncode, ran.stderr), (0, ""))
-        found = figures.found_in(csv.reader(io.StringIO(ran.stdout)), ["a", "d"]) or {}
+        words = ["figures", *figures.words()[1:], scenario, self.write("run.csv", text)]
+        found = figures.found_in(csv.reader(io.StringIO(printed(*words))), ["a", "d"]) or {}
         return ({name: dict(zip(OF_FIGURES, texts)) for name, (texts, _) in found.items()},
                 {name: bounds for name, (_, bounds) in found.items()})
 
@@ -164,7 +146,7 @@ class Sweeps(ToolCase):
         for key, number, busy in ("copies", 2, "20"), ("gather_ms", 0, "40"), ("gather_ms", 1, ""):
             path = self.write("s.toml", scenario_of(9_999, queue_of("q"), producer("shop", "q", 4, 1), consumer(
                 "c", "q", 1_000, start_ms=10, **{key: number}), version=3))
-            status, out, _ = self.run_tool("sweep", "--preview", path, "--vary", "seed=1", "--columns", "busy")
+            status, out, _ = self.run_tool("sweep", "--v3", path, "--vary", "seed=1", "--columns", "busy")
             with self.subTest(key=key, number=number):
                 self.assertEqual((status, out.splitlines()[1].split(",")[-1]), (0, busy))
 
@@ -180,9 +162,8 @@ class Sweeps(ToolCase):
                                places=2)
 
     def test_requirements(self) -> None:
-        status, _, err = self.sweep("--require", "q.new_age_p95<90s", "--require", "q.backlog_gone<50s", "--require",
-                                    "q.moved_age_p50<1s", "--require", "q.requests<1000")
-        self.assertEqual(status, 1)
+        _, err = self.ends(1, self.sweep("--require", "q.new_age_p95<90s", "--require", "q.backlog_gone<50s",
+                                         "--require", "q.moved_age_p50<1s", "--require", "q.requests<1000"))
         self.assertIn("q.new_age_p95<90s is undecided with the scenario as it is: it is ", err)
         self.assertIn("q.backlog_gone<50s fails with the scenario as it is: a backlog is there at the end\n", err)
         self.assertIn("q.moved_age_p50<1s fails with the scenario as it is: no moved message was deleted\n", err)
@@ -190,27 +171,14 @@ class Sweeps(ToolCase):
 
     def test_reports(self) -> None:
         words = self.scenario, "--output", "r.html", "--require"
-        status, _, err = self.run_tool("report", *words, "q.window_age_p95<1s", "--require", "q.requests<1000")
-        self.assertEqual(status, 1)
+        _, err = self.ends(1, self.run_tool("report", *words, "q.window_age_p95<1s", "--require", "q.requests<1000"))
         self.assertTrue(err.startswith("report: q.window_age_p95<1s fails: it is "), err)
         self.assertEqual(len(err.splitlines()), 1)
         self.assert_fault(self.run_tool("report", *words, "q.cost<1"),
                           "report: q.cost<1: a report knows no price (tools/sweep has --price)")
 
     def test_faults(self) -> None:
-        words = "--vary", "seed=1", "--columns"
-        for more, line in ((("cost",), "the column cost needs --price, what a million requests cost"),
-                           (("cost", "--price", "-1"), "--price is 0 to 1,000,000"),
-                           (("cost", "--price", "nan"), "--price is 0 to 1,000,000"),
-                           (("window_age_p95", "--window", "0"), "--window is a time over 0"),
-                           (("window_age_p95", "--window", "x"),
-                            "--window x is no time, as 90s, 1.5h, 1h30m or 1:30:00")):
-            self.assert_fault(self.sweep(*words, *more), f"sweep: {line}")
+        self.assert_stored_faults("columns")
         self.assertEqual(self.sweep("--vary", "seed=1", "--share", "1/1", "--results", "d")[0], 0)
-        status, _, err = self.run_tool("sweep", "--collect", "d", "--columns", "requests")
-        self.assertEqual(status, 2)
+        _, err = self.ends(2, self.run_tool("sweep", "--collect", "d", "--columns", "requests"))
         self.assertIn("shares and jobs have the columns of the report alone, and none of door_age_p50, ", err)
-
-
-if __name__ == "__main__":
-    unittest.main()

@@ -7,10 +7,9 @@ import stat
 import subprocess
 import sys
 import time
-import unittest
 from unittest import mock
 
-from tool import LIMIT, LOG_HEADER, ROOT, SENT, TOOLS, USERS_TOOLS, ToolCase, ended, options_in, read_whole
+from tool import LIMIT, LOG_HEADER, ROOT, SENT, TOOLS, USERS_TOOLS, ToolCase, ended, options_in, ran, read_whole
 import helps
 from rehearse_tools.console import Fault, check_output, with_commands, write_text
 
@@ -22,9 +21,7 @@ OTHER_TOOLS = ("layers", "package", "proof-times")
 class Ends(ToolCase):
     def ended(self, command):
         """Status, standard output and standard error of a command of the shell in the test's folder."""
-        run = subprocess.run(["bash", "-c", command], cwd=self.folder, capture_output=True, text=True,
-                             env={**os.environ, "PATH": f"{TOOLS}:{os.environ['PATH']}"})
-        return run.returncode, run.stdout, run.stderr
+        return ran(["bash", "-c", command], cwd=self.folder, env={**os.environ, "PATH": f"{TOOLS}:{os.environ['PATH']}"})
 
     def test_help_and_unknown_words(self):
         for name in (*TAKING_TOOLS, *OTHER_TOOLS):
@@ -35,8 +32,7 @@ class Ends(ToolCase):
                     self.assertIn(f"tools/{name} ", out)
                     hostile.append(())
                 for words in hostile:
-                    status, out, err = self.run_tool(name, *words)
-                    self.assertEqual((status, out, len(err.splitlines())), (2, "", 1), err)
+                    self.refusal(self.run_tool(name, *words))
 
     def test_help_has_each_option(self):
         """No line has over 120 columns, by either command."""
@@ -98,8 +94,7 @@ class Ends(ToolCase):
                             ("''", "rehearse_tools"), ("no-tool", "rehearse_tools"), ("console", "rehearse_tools"),
                             ("from_plan x", "rehearse_tools")):
             with self.subTest(words=words):
-                status, out, err = self.ended(f"{command} {words}")
-                self.assertEqual((status, out, len(err.splitlines())), (2, "", 1), err)
+                err = self.refusal(self.ended(f"{command} {words}"))
                 self.assertTrue(err.startswith(f"{name}: "), err)
         for word in ("--help", "-h"):
             status, out, err = self.ended(f"{command} {word}")
@@ -122,8 +117,7 @@ class Ends(ToolCase):
     def test_standard_input_that_is_closed(self):
         for command in ("metrics -", "summary -", "life - o-0-0", "picture -", "from-queue -", "from-plan -"):
             with self.subTest(command=command):
-                status, out, err = self.ended(f"{command} <&-")
-                self.assertEqual((status, out, len(err.splitlines())), (2, "", 1), err)
+                self.refusal(self.ended(f"{command} <&-"))
 
     def test_a_folder_in_the_place_of_a_file(self):
         for command in ("metrics .", "summary .", "life . o-0-0", "picture .", "from-queue .", "from-plan .",
@@ -258,10 +252,9 @@ class Outputs(ToolCase):
                 ("sweep s.toml --vary seed=1 --print-scenario --output s.toml", "s.toml")):
             with self.subTest(command=command), open(self.path("log"), "rb") as file:
                 name, *words = command.split()
-                ran = subprocess.run([sys.executable, os.path.join(TOOLS, name), *words], cwd=self.folder, stdin=file,
-                                     capture_output=True, text=True)
-                told = f"{name}: cannot write {words[-1]}: it is the file that is read as {read}, and is to stay\n"
-                self.assertEqual((ran.returncode, ran.stdout, ran.stderr), (2, "", told))
+                self.assert_fault(
+                    ran([sys.executable, os.path.join(TOOLS, name), *words], cwd=self.folder, stdin=file),
+                    f"{name}: cannot write {words[-1]}: it is the file that is read as {read}, and is to stay")
         self.assertEqual({name: pathlib.Path(self.path(name)).read_bytes() for name in os.listdir(self.folder)}, before)
 
     def test_no_folder_is_made(self):
@@ -273,7 +266,3 @@ class Outputs(ToolCase):
                 self.assert_fault(self.run_tool(name, *words, "--output", "a/b/c.svg"),
                                   f"{name}: cannot write a/b/c.svg: there is no folder a/b")
         self.assertFalse(os.path.exists(self.path("a")))
-
-
-if __name__ == "__main__":
-    unittest.main()

@@ -1,11 +1,8 @@
 """Tests the curves of tools/picture --sweep on rows whose means are worked out by hand, and their texts."""
-import subprocess
-import sys
 import os
-import unittest
 
 from test_picture import Readable, needs_numpy
-from tool import PROGRAM, ROOT, TOOLS, module_of, needs_program
+from tool import PROGRAM, ROOT, module_of, needs_program
 from rehearse_tools.console import Fault
 from rehearse_tools.curves import Axis, Rows, curves_of, setting_of, sweep_picture
 
@@ -154,24 +151,18 @@ class Curves(Readable):
                           "picture: cannot read none: No such file or directory")
         for data in (b"\xff", b"\x00" * 9, b'"' * 10, b"a,failed,queue,sends\r1,,q,1\n"):
             self.write("rows.csv", data)
-            status, out, err = self.run_tool("picture", "--sweep", "rows.csv", *column)
-            self.assertEqual((status, out, len(err.splitlines())), (2, "", 1), err)
+            self.refusal(self.run_tool("picture", "--sweep", "rows.csv", *column))
 
     @needs_program
     def test_curve_of_a_sweep(self):
         scenario = os.path.join(ROOT, "examples", "short_timeout.toml")
         words = "--vary", "count.left=1..3", "--vary", "seed=1..4", "--columns", "receives,age_p95"
         status, rows, _ = self.run_tool("sweep", scenario, *words, SQS_REHEARSE=PROGRAM)
-        command = [sys.executable, os.path.join(TOOLS, "picture"), "--sweep", "-", "--column", "jobs.age_p95"]
-        run = subprocess.run(command, input=rows, text=True, capture_output=True)
-        self.assertEqual((status, run.returncode, run.stderr), (0, 0, ""))
-        self.assertIn("mean, and least to greatest, of 4 runs", run.stdout)
+        drawn, out, err = self.run_command("picture", "--sweep", "-", "--column", "jobs.age_p95", stdin=rows)
+        self.assertEqual((status, drawn, err), (0, 0, ""))
+        self.assertIn("mean, and least to greatest, of 4 runs", out)
         self.assertIn("<title>What count.left does</title>\n <desc>jobs.age_p95: mean, and least to greatest, of 4 "
-                      "runs (bars: 95 % interval of the mean)</desc>", run.stdout)
+                      "runs (bars: 95 % interval of the mean)</desc>", out)
 
 
 LONG_WORDS = "a,failed,queue,sends\n" + "".join(f"w{number},,q,1\n" for number in range(41))
-
-
-if __name__ == "__main__":
-    unittest.main()

@@ -2,7 +2,6 @@
 visibility and one for each unit of the seed."""
 import csv
 import os
-import unittest
 from xml.etree import ElementTree
 
 from test_sweep import COLUMNS, SCENARIO
@@ -186,47 +185,19 @@ class Decisions(ToolCase):
         self.assertEqual(status, 0)
         self.assertEqual([row[0] for row in csv.reader(out.splitlines()) if row[2] == "q"],
                          ["10", "15", "17", "18", "19", "20", "40"])
-        status, _, err = self.sweep("--least", "queue.q.visibility_s=1..40", *words, "--require", "q.sends>=9000")
-        self.assertEqual(status, 1)
+        _, err = self.ends(1, self.sweep("--least", "queue.q.visibility_s=1..40", *words, "--require", "q.sends>=9000"))
         self.assertIn("the least queue.q.visibility_s that meets all is none of 1 to 40; tried 40", self.told(err))
 
     def test_the_least_value_of_each_variant_and_of_a_share(self) -> None:
         """With three seconds 98 of 100 seeds have 303 at least, with two none."""
-        status, _, err = self.sweep("--least", "queue.q.visibility_s=1..8", "--vary", "queue.r.delay_s=1,2", *SEEDS,
-                                    "--require", "q.sends>=303 in 90%")
-        self.assertEqual(status, 0)
+        _, err = self.ends(0, self.sweep("--least", "queue.q.visibility_s=1..8", "--vary", "queue.r.delay_s=1,2",
+                                         *SEEDS, "--require", "q.sends>=303 in 90%"))
         lines = [line for line in self.told(err) if line.startswith("the least")]
         self.assertEqual(lines, [f"the least queue.q.visibility_s that meets all with queue.r.delay_s={delay} is 3; "
                                  "tried 2, 3, 4, 8" for delay in (1, 2)])
 
     def test_faults(self) -> None:
-        spread = "--vary", "seed=1..3", "--spread", "seed"
-        for words, line in (
-                (("--vary", "seed=1..3", "--require", "q.sends<1 in 95%"),
-                 "q.sends<1 in 95%: a share of runs goes with --spread"),
-                ((*spread, "--require", "q.sends<1 in 0%"), "q.sends<1 in 0% is no requirement, as orders.age_p95<60s"),
-                ((*spread, "--require", "q.sends<1 in 100%"),
-                 "q.sends<1 in 100%: a share of the runs is under 100 %; without `in` it must hold in all"),
-                (spread[:2] + ("--against", "seed=1"), "--against goes with --spread (--help tells the usage)"),
-                ((*spread, "--against", "seed=1"), "--against seed=1: seed is no setting that is varied"),
-                ((*spread, "--against", "horizon=1"), "--against horizon=1: horizon is no setting that is varied"),
-                ((*spread, "--vary", "horizon=1,2", "--against", "horizon=3"),
-                 "--against horizon=3: 3 is none of the values of horizon"),
-                ((*spread, "--until", "5"), "--until is decided, or a part as 5% of the means of --columns"),
-                ((*spread, "--until", "5%"), "--until is decided, or a part as 5% of the means of --columns"),
-                ((*spread, "--most", "5"), "--most is a number of runs from 1 on, and goes with --until or --least"),
-                ((*spread, "--least", "queue.q.visibility_s=1..3"),
-                 "--least goes with --require (--help tells the usage)"),
-                ((*spread, "--require", "q.sends<1", "--least", "queue.q.visibility_s=3,1"),
-                 "the values of --least queue.q.visibility_s do not grow"),
-                ((*spread, "--require", "q.sends<1", "--least", "queue.q.visibility_s=a,b"),
-                 "--least looks for a whole number, as queue.q.visibility_s=1..64"),
-                (("--zip", "seed=1..3", "--vary", "horizon=1"),
-                 "--zip seed=1..3 goes with the --vary before it, and there is none"),
-                (("--vary", "seed=1..3", "--zip", "horizon=1,2"),
-                 "horizon has 2 values, and seed, with which it goes, has 3")):
-            with self.subTest(words=words):
-                self.assert_fault(self.sweep(*words), f"sweep: {line}")
+        self.assert_stored_faults("decisions", SQS_REHEARSE=self.program)
 
 
 @needs_program
@@ -239,7 +210,3 @@ class Example(ToolCase):
         row = dict(zip(*csv.reader(out.splitlines())))
         self.assertEqual((status, row["age_p95_shown"], row["age_max_shown"]), (0, "no", "yes"))
         self.assertEqual((row["age_p95_difference"], row["age_p95_greater"]), ("7291.64", "39"))
-
-
-if __name__ == "__main__":
-    unittest.main()

@@ -121,7 +121,3 @@ class Counted(unittest.TestCase):
     def test_each_document_ends_with_a_line_end(self) -> None:
         for path in [*TOP.glob("*.md"), *(TOP / "docs").glob("*.md"), *(crate / "README.md" for crate in CRATES)]:
             self.assertTrue(path.read_bytes().endswith(b"\n"), path)
-
-
-if __name__ == "__main__":
-    unittest.main()

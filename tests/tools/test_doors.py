@@ -8,7 +8,7 @@ import json
 import random
 import unittest
 
-from tool import HEADER, ToolCase, needs_program, printed, text_at
+from tool import HEADER, ToolCase, log_at, needs_program, printed, text_at
 from scenario_texts import between, consumer, producer, queue_of, scenario_of, script, task
 from rehearse_tools.doors import Doors
 from rehearse_tools.logs import Rows
@@ -16,20 +16,7 @@ from rehearse_tools.replay import ignored
 from rehearse_tools.runs import Output
 
 # m-0-0 is dead-lettered to d, moved back as m-0-1, and forwarded to b, where it is deleted 9.2 s after it was sent.
-CHAIN = HEADER + """100,a,shop,send,new,m-0-0,,x
-150,a,w,receive,ok,m-0-0,r-0-0-1,o-0-0
-200,a,w,fail,ok,m-0-0,r-0-0-1,
-2150,a,a,redrive,out,m-0-0,,d
-2170,d,a,arrive,new,m-2-0,,o-0-0
-5000,d,back,move,out,m-2-0,,a
-5020,a,back,arrive,new,m-0-1,,o-0-0
-5100,a,w,receive,ok,m-0-1,r-0-1-1,o-0-0
-5300,a,w,forward,out,m-0-1,,b
-5300,a,w,delete,deleted,m-0-1,r-0-1-1,280
-5400,b,w,arrive,new,m-1-0,,o-1-0
-9000,b,v,receive,ok,m-1-0,r-1-0-1,o-1-0
-9300,b,v,delete,deleted,m-1-0,r-1-0-1,3900
-"""
+CHAIN = log_at("chain.log")
 STEADY = scenario_of(60_000, queue_of("a"), queue_of("b"),
                   consumer("w", "a", 1_000, wait_s=20, idle_ms=1, forward="b", latency_ms=500),
                   consumer("v", "b", 1_000, wait_s=20, idle_ms=1), producer("shop", "a", 5, 5_000))
@@ -156,20 +143,7 @@ def chain(seed: int) -> str:
 class MayStillCome(unittest.TestCase):
     def test_the_messages_that_are_before_a_queue(self) -> None:
         """Of b: m-0-1 in a, m-0-2 redriven to d, m-0-3 forwarded to b. From b no way leads to a, nor from z to b."""
-        found = doors_of(HEADER + """0,a,shop,send,new,m-0-0,,x
-1,a,shop,send,new,m-0-1,,x
-2,a,shop,send,new,m-0-2,,x
-3,a,shop,send,new,m-0-3,,x
-4,z,shop,send,new,m-3-0,,x
-5,a,w,receive,ok,m-0-0,r-0-0-1,o-0-0
-6,a,w,forward,out,m-0-0,r-0-0-1,b
-6,a,w,delete,deleted,m-0-0,r-0-0-1,6
-7,b,w,arrive,new,m-1-0,,o-1-0
-8,a,w,receive,ok,m-0-3,r-0-3-1,o-0-3
-9,a,w,forward,out,m-0-3,r-0-3-1,b
-9,a,w,delete,deleted,m-0-3,r-0-3-1,6
-9,a,a,redrive,out,m-0-2,,d
-""").left()
+        found = doors_of(log_at("before.log")).left()
         self.assertEqual(sorted(found.may_come("b")), [1, 3])
         self.assertEqual(sorted(found.may_come("d")), [1, 2])
         self.assertEqual((found.may_come("a"), found.may_come("z")), ([], []))
@@ -229,8 +203,7 @@ class Sweeps(ToolCase):
                          (1, f"sweep: {require[1]} is undecided with the scenario as it is: {told}"))
         self.assertEqual(self.run_tool("report", scenario, *require, "--output", "r.html"),
                          (1, "", f"report: {require[1]} is undecided: {told}\n"))
-        status, _, err = self.run_tool("sweep", scenario, "--require", "b.door_age_p95<10s")
-        self.assertEqual(status, 1)
+        _, err = self.ends(1, self.run_tool("sweep", scenario, "--require", "b.door_age_p95<10s"))
         self.assertIn("b.door_age_p95<10s fails", err)
         # the middle one of those deleted is 6508 ms old, and 4504 ms if the youngest come
         for bound, word in (("4504ms", ""), ("4505ms", "is undecided"), ("6509ms", "is undecided")):
@@ -252,7 +225,3 @@ class Sweeps(ToolCase):
             ran = self.run_tool("sweep", self.write("s.toml", text), "--require", "b.door_age_p95<3s")
             self.assertEqual(ran[0], status, ran[2])
         self.assertIn("with the 3 that may still come (37.5 %)", ran[2])
-
-
-if __name__ == "__main__":
-    unittest.main()

@@ -6,7 +6,6 @@ import select
 import signal
 import subprocess
 import sys
-import unittest
 
 from test_sweep import SCENARIO
 from tool import TOOLS, ToolCase
@@ -88,7 +87,3 @@ class Ends(ToolCase):
                     is_sweep = COMMANDS[name][0] == "sweep"
                     self.assertEqual(process.returncode, 130 if is_sweep else 128 + number, errors)
                     self.assertNotIn("Traceback", errors)
-
-
-if __name__ == "__main__":
-    unittest.main()

@@ -4,17 +4,14 @@ import io
 import os
 import re
 import shutil
-import sys
 import unittest
 
 from tool import ROOT, ToolCase, module_of
 from rehearse_tools.console import read_text
 from rehearse_tools.fact_tables import rows_of
 from rehearse_tools.logs import REPORT_HEADER
-
-sys.path.insert(0, os.path.join(ROOT, "tests", "reference"))
-import faults  # noqa: E402 (the folder comes first)
-import log  # noqa: E402
+import faults
+import log
 
 CRATES = os.path.join(ROOT, "crates")
 FILES = ("docs/FORMATS.md", "docs/scenario.schema.json")
@@ -71,7 +68,3 @@ class Told(unittest.TestCase):
         self.assertEqual(log.COLUMNS, REPORT_HEADER[2:])
         counted = [row["counts"].split("; ") for row in rows_of("columns") if row["counts"]]
         self.assertEqual(counted, log.COUNTED)
-
-
-if __name__ == "__main__":
-    unittest.main()

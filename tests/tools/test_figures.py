@@ -7,44 +7,23 @@ import io
 import math
 import os
 import subprocess
-import sys
 import unittest
 
 from test_runs import random_scenario
 from test_summary import LOG, PARTS
-from tool import PROGRAM, ROOT, ToolCase, needs_program, printed, text_at
+from tool import PROGRAM, ToolCase, log_at, needs_program, printed, text_at
 from scenario_texts import consumer, queue_of, scenario_of, script
 from rehearse_tools import runs
 from rehearse_tools.figures import AGES, COLUMNS, OF_QUEUE, Figures
 from rehearse_tools.scenarios import consumers_of, names_of, parsed
 from rehearse_tools.statistics import Interval
-
-sys.path.insert(0, os.path.join(ROOT, "tests", "reference"))
-from figures import Fields, Stretch, busy, depths, flights, peak, tries  # noqa: E402 (of the folder above)
+from figures import Fields, Stretch, busy, depths, flights, peak, tries
 
 SCENARIOS = 20
 # In LOG the three messages of a are there from 200 ms on, and all in flight from 300 ms on. Its consumer left is busy
 # from 100 to 2500 ms and from 3200 to 5300 ms, right from 300 to 3100 ms, and third from 2200 to 2600 ms. Of the two
 # messages that are deleted one had been received twice.
-FIGURES = """figure,of,name,value
-figure,a,sent,3
-figure,a,depth_greatest,3
-figure,a,depth_greatest_at_ms,200
-figure,a,in_flight_greatest,3
-figure,a,in_flight_greatest_at_ms,300
-figure,a,received_again,1
-figure,a,tries_greatest,2
-figure,d,sent,0
-figure,d,depth_greatest,1
-figure,d,depth_greatest_at_ms,5220
-figure,d,in_flight_greatest,0
-figure,d,in_flight_greatest_at_ms,0
-figure,d,received_again,0
-figure,d,tries_greatest,0
-figure,left,busy_ms,4500
-figure,right,busy_ms,2800
-figure,third,busy_ms,400
-"""
+FIGURES = log_at("batch.figures")
 CONSUMERS = {"a": ["left", "right", "third"]}
 # Figures that are made up, each of another number.
 MADE_UP = ["requests", "backlog_gone_at_ms", "backlog_since_ms", *(f"{age}_ms" for age in AGES.values()),
@@ -154,8 +133,7 @@ class Sweeps(ToolCase):
     scenario_text = SCENARIO
 
     def rows(self, *words: str) -> list[list[str]]:
-        status, out, _ = self.run_tool("sweep", self.scenario, *words)
-        self.assertEqual(status, 0)
+        out, _ = self.ends(0, self.run_tool("sweep", self.scenario, *words))
         return list(csv.reader(io.StringIO(out)))[1:]
 
     def test_columns(self) -> None:
@@ -192,10 +170,7 @@ class Sweeps(ToolCase):
             "q.depth_max_at_ms<2ms fails with the scenario as it is: it is 2 ms, 2 ms",
             "*.busy<1 of idle fails with the scenario as it is: it has no consumer",
             "requirements that hold: 3 of 8")]))
-        for text, line in (("q.busy<25s", "25s is not a share, as 90%"), ("q.busy<%", "% is not a share, as 90%"),
-                           ("q.in_flight_max<9%", "9% is not a number without a unit"),
-                           ("q.depth_max_at_ms<9%", "9% is not a number with a unit, as 60s")):
-            self.assert_fault(self.run_tool("sweep", self.scenario, "--require", text), f"sweep: {text}: {line}")
+        self.assert_stored_faults("figures")
 
     def test_requirements_of_a_report(self) -> None:
         words = self.scenario, "--require", "q.busy<25%", "--require", "q.in_flight_max=2", "--output", "r.html"
@@ -213,9 +188,8 @@ class Sweeps(ToolCase):
         words = "--vary", "seed=1", "--share", "1/1", "--results", "d"
         self.assertEqual(self.run_tool("sweep", self.scenario, *words)[0], 0)
         for asked in (("--columns", "busy"), ("--require", "q.in_flight_max<9")):
-            status, out, err = self.run_tool("sweep", "--collect", "d", *asked)
-            self.assertEqual((status, out), (2, ""))
-            self.assertIn("shares and jobs have the columns of the report alone, and none of door_age_p50, ", err)
+            self.assertIn("shares and jobs have the columns of the report alone, and none of door_age_p50, ",
+                          self.refusal(self.run_tool("sweep", "--collect", "d", *asked)))
 
     def test_random_scenarios(self) -> None:
         """The columns are those that the reference makes of the log."""
@@ -242,7 +216,3 @@ class Sweeps(ToolCase):
                 are_rich += len(times) > 1 and max(times) > 0
             self.assertEqual(len(ran.records or []), len(names_of(scenario, "queue")), ran.told)
         self.assertGreater(are_rich, SCENARIOS // 4)
-
-
-if __name__ == "__main__":
-    unittest.main()

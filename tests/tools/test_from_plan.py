@@ -5,11 +5,9 @@ import io
 import json
 import os
 import random
-import subprocess
 import sys
-import unittest
 
-from tool import PROGRAM, ROOT, TOOLS, ToolCase, module_of, needs_program, printed, text_at
+from tool import PROGRAM, ROOT, TOOLS, ToolCase, module_of, needs_program, printed, ran, text_at
 from rehearse_tools.console import Fault, toml_of
 
 ARN = "arn:aws:sqs:eu-central-1:123456789012:"
@@ -55,145 +53,10 @@ PLAN = {
                                 "module_calls": {"inner": {"module": {"outputs": {"arn": {"expression": {
                                     "references": ["aws_sqs_queue.dead.arn"]}}}}}}}}}}},
 }
-TABLES = """
-[[queue]]
-name = "orders"
-visibility_s = 45
-delay_s = 0
-retention_s = 86400
-dead_letter = "failed"
-max_receives = 10
-latency_ms = 100
-# DEFAULT: latency_ms of 100, how long a redrive takes, as nothing tells it.
-# DEFAULT: max_receives of 10, as the plan does not tell it before it is applied.
-
-[[queue]]
-name = "failed"
-visibility_s = 30
-delay_s = 5
-retention_s = 1209600
-
-[[queue]]
-name = "pay.fifo"
-content_dedup = true
-dedup_scope = "group"
-dead_letter = "dead-inner-dead.fifo"
-max_receives = 10
-latency_ms = 100
-# DEFAULT: visibility_s of 30, as visibility_timeout_seconds is not given.
-# DEFAULT: delay_s of 0, as delay_seconds is not given.
-# DEFAULT: retention_s of 345600, as message_retention_seconds is not given.
-# DEFAULT: latency_ms of 100, how long a redrive takes, as nothing tells it.
-# DEFAULT: max_receives of 10, as the plan does not tell it before it is applied.
-
-[[queue]]
-name = "dead-inner-dead.fifo"
-content_dedup = false
-dedup_scope = "queue"
-# DEFAULT: visibility_s of 30, as visibility_timeout_seconds is not given.
-# DEFAULT: delay_s of 0, as delay_seconds is not given.
-# DEFAULT: retention_s of 345600, as message_retention_seconds is not given.
-# DEFAULT: its name, as the plan does not tell it of module.dead.module.inner.aws_sqs_queue.dead.
-
-# SKELETON: who sends to orders.
-[[actor]]
-name = "orders-sender"
-"""
-TEMPLATE = """AWSTemplateFormatVersion: 2010-09-09
-Parameters:
-  Stage: {Type: String, Default: test}
-  Unset: {Type: Number}
-Resources:
-  Orders:
-    Type: AWS::SQS::Queue
-    Properties:
-      QueueName: !Sub "${Stage}-orders"
-      VisibilityTimeout: "45"
-      DelaySeconds: 0
-      MessageRetentionPeriod: !Ref Unset
-      RedrivePolicy:
-        deadLetterTargetArn: !GetAtt Failed.Arn
-        maxReceiveCount: 3
-  Failed:
-    Type: AWS::SQS::Queue
-    Condition: WithFailed
-  Pay:
-    Type: AWS::SQS::Queue
-    Properties:
-      QueueName: !Join ["-", [pay, !Ref Stage, "queue.fifo"]]
-      FifoQueue: true
-      RedrivePolicy:
-        deadLetterTargetArn: !Sub "arn:aws:sqs:${AWS::Region}:${AWS::AccountId}:old.fifo"
-        maxReceiveCount: 2
-  Topic:
-    Type: AWS::SNS::Topic
-"""
-TEMPLATE_TABLES = """
-[[queue]]
-name = "test-orders"
-visibility_s = 45
-delay_s = 0
-dead_letter = "Failed"
-max_receives = 3
-latency_ms = 7
-# DEFAULT: retention_s of 345600, as MessageRetentionPeriod is not known: Unset has no default in the template.
-# DEFAULT: latency_ms of 7, how long a redrive takes, as nothing tells it.
-
-[[queue]]
-name = "Failed"
-# DEFAULT: visibility_s of 30, as VisibilityTimeout is not given.
-# DEFAULT: delay_s of 0, as DelaySeconds is not given.
-# DEFAULT: retention_s of 345600, as MessageRetentionPeriod is not given.
-# DEFAULT: its name, as the template names none.
-# it is there under the condition WithFailed.
-
-[[queue]]
-name = "pay-test-queue.fifo"
-content_dedup = false
-dedup_scope = "queue"
-dead_letter = "old.fifo"
-max_receives = 2
-latency_ms = 7
-"""
-SAM = """Transform: AWS::Serverless-2016-10-31
-Parameters:
-  Stage: {Type: String, Default: test}
-Mappings:
-  Times: {prod: {Visibility: 70}, test: {Visibility: 20}}
-Conditions:
-  IsProd: !Equals [!Ref Stage, prod]
-  IsOther: !Not [!Condition IsProd]
-Resources:
-  Jobs:
-    Type: AWS::SQS::Queue
-    Properties:
-      VisibilityTimeout: !If [IsOther, !Ref AWS::NoValue, 90]
-  Extra:
-    Type: AWS::SQS::Queue
-    Condition: IsProd
-    Properties: {VisibilityTimeout: !FindInMap [Times, !Ref Stage, Visibility]}
-  News: {Type: AWS::SNS::Topic}
-  NewsToJobs:
-    Type: AWS::SNS::Subscription
-    Properties: {Protocol: sqs, TopicArn: !Ref News, Endpoint: !GetAtt Jobs.Arn}
-  Work:
-    Type: AWS::Serverless::Function
-    Properties:
-      Events:
-        Job:
-          Type: SQS
-          Properties:
-            Queue: !GetAtt Jobs.Arn
-            BatchSize: 4
-            FunctionResponseTypes: [ReportBatchItemFailures]
-            ScalingConfig: {MaximumConcurrency: 2}
-        Web: {Type: Api, Properties: {Path: /}}
-  Old:
-    Type: AWS::Lambda::EventSourceMapping
-    Condition: IsProd
-    Properties: {FunctionName: !Ref Old, EventSourceArn: !Sub "${Extra.Arn}"}
-"""
-HERE = os.path.dirname(os.path.abspath(__file__))
+PLANS = os.path.join(os.path.dirname(os.path.abspath(__file__)), "plans")
+# What is made of the plan and of the template, as far as their queues; sam.yaml has events and conditions.
+TABLES, TEMPLATE, TEMPLATE_TABLES, SAM = (text_at(PLANS, name) for name in (
+    "plan.toml", "template.yaml", "template.toml", "sam.yaml"))
 STORED = ("modules/plan.json", "nested/plan.json", "wiring/plan.json", "wiring/state.json")
 TEMPLATE_IN_JSON = {
     "Conditions": {"C": {"Fn::Not": [{"Fn::Equals": [{"Ref": "P"}, "x"]}]}}, "Parameters": {"P": {"Default": "y"}},
@@ -221,15 +84,14 @@ def change(found, chance):
 class FromPlan(ToolCase):
     def made(self, text, *words):
         """What is made of a text, without its head and its skeletons."""
-        status, out, err = self.run_tool("from-plan", self.write("given", text), *words)
-        self.assertEqual(status, 0, err)
+        out, err = self.ends(0, self.run_tool("from-plan", self.write("given", text), *words))
         comments = [line for line in out[out.index("[[queue]]"):].splitlines()
                     if line.startswith("# ") and "SKELETON" not in line]
         self.assertEqual(len(err.splitlines()), len(comments))
         return out[out.index("horizon"):].partition("\n")[2]
 
     def test_plan(self):
-        self.assertTrue(self.made(json.dumps(PLAN)).startswith(TABLES))
+        self.assertTrue(self.made(json.dumps(PLAN)).startswith(f"\n{TABLES}"))
 
     def test_state(self):
         """A state tells all values, as that of a policy and of a queue's URL."""
@@ -262,8 +124,7 @@ class FromPlan(ToolCase):
 
     def stored(self, name):
         """The scenario that is made of a stored plan, and what standard error reports."""
-        status, out, err = self.run_tool("from-plan", os.path.join(HERE, "plans", name))
-        self.assertEqual(status, 0, err)
+        out, err = self.ends(0, self.run_tool("from-plan", os.path.join(PLANS, name)))
         return toml_of(out), err
 
     def dead_letters(self, scenario):
@@ -289,8 +150,7 @@ class FromPlan(ToolCase):
             text = json.dumps({"planned_values": {"root_module": {"resources": wired, "child_modules": modules}},
                                "configuration": {"root_module": {"resources": found, "module_calls": {"sqs": {
                                    "module": {"resources": [], "outputs": {}}}}}}})
-            status, out, err = self.run_tool("from-plan", self.write("given", text))
-            self.assertEqual(status, 0, err)
+            out, err = self.ends(0, self.run_tool("from-plan", self.write("given", text)))
             actors = {actor["name"]: actor["queue"] for actor in toml_of(out)["actor"]}
             for key, name in zip(keys, names):
                 short = key.replace('"', "")
@@ -338,7 +198,7 @@ class FromPlan(ToolCase):
             self.assertNotIn("work: it does not report", err)
 
     def topic(self, subscribed, more=(), **of_topic):
-        """What is made with --preview of queues that are subscribed to a topic, each with what its subscription has
+        """What is made with --v3 of queues that are subscribed to a topic, each with what its subscription has
         besides; `more` are other queues."""
         resources = [resource(f"aws_sqs_queue.{name}", name=name, fifo_queue=name.endswith(".fifo"))
                      for name in (*subscribed, *more)]
@@ -346,8 +206,7 @@ class FromPlan(ToolCase):
                                endpoint=ARN + name, **{"topic_arn": "arn:aws:sns:x:1:news", **of_topic, **own})
                       for number, (name, own) in enumerate(subscribed.items())]
         path = self.write("given", json.dumps({"values": {"root_module": {"resources": resources}}}))
-        status, out, err = self.run_tool("from-plan", path, "--preview", "--latency", "30")
-        self.assertEqual(status, 0, err)
+        out, err = self.ends(0, self.run_tool("from-plan", path, "--v3", "--latency", "30"))
         scenario = toml_of(out)
         return {actor["queue"]: actor["forward"] for actor in scenario["actor"] if "forward" in actor}, scenario, err
 
@@ -406,20 +265,20 @@ class FromPlan(ToolCase):
             "Other": {"Type": "AWS::SNS::Subscription", "Properties": {
                 "Protocol": "sqs", "TopicArn": {"Ref": "u"}, "Endpoint": {"Fn::GetAtt": ["C", "Arn"]}}}}}
         for given in plan, template:
-            status, out, err = self.run_tool("from-plan", self.write("given", json.dumps(given)), "--preview")
-            self.assertEqual(status, 0, err)
+            out, err = self.ends(0, self.run_tool("from-plan", self.write("given", json.dumps(given)), "--preview"))
             self.assertEqual({actor["queue"]: actor["forward"] for actor in toml_of(out)["actor"] if "forward" in actor},
                              {"t": ["a", "b"]})
 
     def test_mappings_in_version_3(self):
         """By main.tf the function of orders reports batch item failures, and that of audit does not."""
-        path = os.path.join(HERE, "plans", "wiring", "plan.json")
+        path = os.path.join(PLANS, "wiring", "plan.json")
         without, plain_err = self.stored("wiring/plan.json")
-        status, out, err = self.run_tool("from-plan", path, "--preview")
+        status, out, err = self.run_tool("from-plan", path, "--v3")
+        self.assertEqual(self.run_tool("from-plan", path, "--preview"), (status, out, err))
         scenario = toml_of(out)
         self.assertEqual((status, scenario["version"], without["version"]), (0, 3, 1))
-        self.assertIn("here each message fails by itself, and with --preview its batch does\n", plain_err)
-        self.assertIn("# Version 3 is a preview: run this with --preview.\n", out)
+        self.assertIn("here each message fails by itself, and with --v3 its batch does\n", plain_err)
+        self.assertIn("# This has version 3 of scenarios: run it with --v3.\n", out)
         self.assertEqual({actor["queue"]: actor.get("batch_fails") for actor in scenario["actor"]
                           if actor["kind"] == "consumer"}, {"audit": "whole", "orders": "each", "plain": None})
         self.assertEqual([(queue["latency_min_ms"], queue["latency_max_ms"]) for queue in scenario["queue"]
@@ -473,14 +332,13 @@ class FromPlan(ToolCase):
                              (":".join("1" * 3_000), "a number has too many digits")):
             path = self.write("number", "Resources:\n  Q:\n    Type: AWS::SQS::Queue\n"
                                         f"    Properties: {{VisibilityTimeout: {number}}}\n")
-            status, out, err = self.run_tool("from-plan", path)
-            self.assertEqual((status, out, len(err.splitlines())), (2, "", 1), err)
+            err = self.refusal(self.run_tool("from-plan", path))
             self.assertIn(f"{path} is neither JSON nor YAML: {told or ''}", err)
         self.assert_fault(self.run_tool("from-plan", self.write("given", json.dumps(PLAN)), "--parameter", "a=b"),
                           "from-plan: --parameter goes with a template; a plan has the values of its variables")
 
     def test_template(self):
-        self.assertTrue(self.made(TEMPLATE, "--latency", "7").startswith(TEMPLATE_TABLES))
+        self.assertTrue(self.made(TEMPLATE, "--latency", "7").startswith(f"\n{TEMPLATE_TABLES}"))
 
     def test_template_in_json(self):
         long = {"Parameters": {"Stage": {"Default": "test"}}, "Resources": {
@@ -509,8 +367,7 @@ class FromPlan(ToolCase):
                   for text in ("", "{}", "[]", "null", "at,queue\n", '{"values": {}}', "Resources: []", "5"))):
             with self.subTest(text=text[:80]):
                 self.write("given", text)
-                status, out, err = self.run_tool("from-plan", "given")
-                self.assertEqual((status, out, len(err.splitlines())), (2, "", 1), err)
+                err = self.refusal(self.run_tool("from-plan", "given"))
                 if line:
                     self.assertEqual(err, f"from-plan: {line}\n")
 
@@ -523,8 +380,7 @@ class FromPlan(ToolCase):
                      b"Resources: {A: {Type: 'AWS::SQS::Queue', Properties: {DelaySeconds: [1]}}}"):
             self.write("given", data)
             with self.subTest(data=data[:40]):
-                status, out, err = self.run_tool("from-plan", "given")
-                self.assertEqual((status, out, len(err.splitlines())), (2, "", 1), err)
+                self.refusal(self.run_tool("from-plan", "given"))
 
     def test_plans_with_other_values(self):
         """Some value of a stored plan or template is another one: that is a scenario or a fault, and no traceback."""
@@ -544,7 +400,7 @@ class FromPlan(ToolCase):
         self.assertGreater(ends.count(0), 150)
 
     def text_of(self, name):
-        return text_at(HERE, "plans", name)
+        return text_at(PLANS, name)
 
     def test_without_its_library(self):
         """If the library is missing, the error names its package; JSON needs none."""
@@ -553,11 +409,10 @@ class FromPlan(ToolCase):
         for text, called, wanted in ((TEMPLATE, "", "tools/setup"), (json.dumps(PLAN), "", None),
                                      (TEMPLATE, "sqs_rehearse from-plan", "sqs_rehearse setup")):
             command = [sys.executable, "-c", code, os.path.join(TOOLS, "from-plan"), self.write("given", text)]
-            ran = subprocess.run(command, capture_output=True, text=True,
-                                 env={**os.environ, "PYTHONPATH": TOOLS, "SQS_REHEARSE_TOOL": called})
-            self.assertEqual(ran.returncode, 2 if wanted else 0, ran.stderr)
+            environment = {**os.environ, "PYTHONPATH": TOOLS, "SQS_REHEARSE_TOOL": called}
+            _, err = self.ends(2 if wanted else 0, ran(command, env=environment))
             if wanted:
-                self.assertEqual(ran.stderr, f"{called or 'from-plan'}: the library yaml is missing: Debian's package "
+                self.assertEqual(err, f"{called or 'from-plan'}: the library yaml is missing: Debian's package "
                                  f"python3-yaml has it for Debian's python3, and {wanted} installs it\n")
 
     def test_example_of_the_documents(self):
@@ -585,7 +440,3 @@ class FromPlan(ToolCase):
         path = self.write("given", json.dumps(plan))
         self.assertEqual(self.run_tool("from-plan", path, "--output", "s.toml")[0], 0)
         self.assertEqual(printed("check", self.path("s.toml")), "ok queues=12 actors=24 tasks=0 least=3600001\n")
-
-
-if __name__ == "__main__":
-    unittest.main()

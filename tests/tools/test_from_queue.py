@@ -1,7 +1,6 @@
 """Tests tools/from-queue on attributes as SQS gives them."""
 import json
 import os
-import unittest
 
 from tool import ToolCase, needs_program, printed, text_at
 from rehearse_tools.console import toml_of
@@ -100,6 +99,18 @@ class FromQueue(ToolCase):
                           ("orders-depth-delayed-1", 7, None)])
         self.assertIn("its present messages are left out", self.run_tool("from-queue", path)[2])
 
+    def test_depth_in_version_3(self):
+        """One table has the producers that send as many messages. Names of their copies are free."""
+        path = self.changed(ApproximateNumberOfMessages="2501", ApproximateNumberOfMessagesDelayed="3000")
+        other = self.file("other.json", {"QueueArn": ARN + "orders-depth-delayed-2"})
+        status, out, _ = self.run_tool("from-queue", path, other, "--depth", "--v3")
+        made = toml_of(out)
+        self.assertEqual((status, made["version"], made["queue"][0]["latency_max_ms"]), (0, 3, 100))
+        self.assertEqual([(actor["name"], actor["count"], actor["copies"], actor.get("delay_s"))
+                          for actor in made["actor"]],
+                         [("orders-depth", 834, 2, 0), ("orders-depth-3", 833, 1, 0),
+                          ("orders-depth-delayed-3", 1000, 3, None)])
+
     def test_fifo_queue_by_its_url(self):
         url = "https://sqs.eu-central-1.amazonaws.com/123456789012/pay.fifo"
         inside = self.file("inside.json", {**PAYMENTS, "QueueUrl": url})
@@ -122,8 +133,7 @@ class FromQueue(ToolCase):
         self.assertIn("from-queue: failed: RedriveAllowPolicy is left out: ", err)
 
     def test_settings_that_are_not_given(self):
-        status, out, _ = self.run_tool("from-queue", self.file("a.json", {"QueueArn": ARN + "a"}))
-        self.assertEqual(status, 0)
+        out, _ = self.ends(0, self.run_tool("from-queue", self.file("a.json", {"QueueArn": ARN + "a"})))
         self.assertIn("# DEFAULT: visibility_s of 30, as VisibilityTimeout is not given.\n", out)
 
     def test_values_beyond_a_scenario(self):
@@ -168,8 +178,7 @@ class FromQueue(ToolCase):
         for data in (b"", b"{", b"\x00\xff\xfe", bytes(range(256)), b"[" * 100_000, b"\xff\xfe{",
                      b'{"Attributes": 1' + b"0" * 9_000, b"at,queue,agent,call\n"):
             self.write("no.json", data)
-            status, out, err = self.run_tool("from-queue", "no.json")
-            self.assertEqual((status, out, len(err.splitlines())), (2, "", 1), err)
+            self.refusal(self.run_tool("from-queue", "no.json"))
 
     def test_encodings(self):
         text = json.dumps({"Attributes": ORDERS})
@@ -186,8 +195,7 @@ class FromQueue(ToolCase):
                           "from-queue: cannot write orders.json/x: Not a directory")
 
     def test_help_has_a_loop_for_an_account(self):
-        status, out, _ = self.run_tool("from-queue", "--help")
-        self.assertEqual(status, 0)
+        out, _ = self.ends(0, self.run_tool("from-queue", "--help"))
         self.assertIn("for url in $(aws sqs list-queues --query 'QueueUrls[]' --output text); do\n", out)
 
     @needs_program
@@ -196,7 +204,3 @@ class FromQueue(ToolCase):
         files = self.file("orders.json", ORDERS), self.file("pay.json", PAYMENTS, QueueUrl=url)
         self.assertEqual(self.run_tool("from-queue", *files, "--output", "s.toml")[0], 0)
         self.assertEqual(printed("check", self.path("s.toml")), "ok queues=3 actors=0 tasks=0 least=100\n")
-
-
-if __name__ == "__main__":
-    unittest.main()

@@ -1,10 +1,8 @@
 """Tests the examples in the helps of the tools: each runs as it stands."""
 import os
 import shutil
-import subprocess
-import unittest
 
-from tool import ROOT, TOOLS, USERS_TOOLS, ToolCase, needs_program
+from tool import ROOT, TOOLS, USERS_TOOLS, ToolCase, needs_program, ran
 import helps
 
 ATTRIBUTES = """{"Attributes": {"QueueArn": "arn:aws:sqs:eu-west-1:1:%s", "VisibilityTimeout": "45",
@@ -34,14 +32,14 @@ class Examples(ToolCase):
             self.assertGreaterEqual(len(examples), 2, name)
             for example in examples:
                 with self.subTest(example=example):
-                    run = subprocess.run(["bash", "-c", example], cwd=self.folder, capture_output=True, text=True,
-                                         env={**os.environ, "PATH": f"{TOOLS}:{os.environ['PATH']}"})
-                    self.assertIn(run.returncode, (0, 1), run.stderr)
-                    self.assertNotIn("Traceback", run.stderr)
+                    environment = {**os.environ, "PATH": f"{TOOLS}:{os.environ['PATH']}"}
+                    status, _, err = ran(["bash", "-c", example], cwd=self.folder, env=environment)
+                    self.assertIn(status, (0, 1), err)
+                    self.assertNotIn("Traceback", err)
                     self.assertIn(f"tools/{name} ", example)
 
 
-class Usages(unittest.TestCase):
+class Usages(ToolCase):
     """The help of each program in tools/, also of those for who works on this repository."""
 
     def test_columns(self) -> None:
@@ -50,18 +48,13 @@ class Usages(unittest.TestCase):
         self.assertLessEqual(set(USERS_TOOLS), set(names))
         for name in names:
             with self.subTest(tool=name):
-                run = subprocess.run([os.path.join(TOOLS, name), "--help"], capture_output=True, text=True)
-                self.assertEqual((run.returncode, run.stderr), (0, ""))
-                self.assertIn(f"tools/{name}", run.stdout)
-                self.assertEqual([line for line in run.stdout.splitlines() if len(line) > 120], [])
+                status, out, err = ran([os.path.join(TOOLS, name), "--help"])
+                self.assertEqual((status, err), (0, ""))
+                self.assertIn(f"tools/{name}", out)
+                self.assertEqual([line for line in out.splitlines() if len(line) > 120], [])
 
     def test_words_that_are_none(self) -> None:
         """Each refuses an option that there is not, in one line."""
         for name in (*USERS_TOOLS, "bench", "build", "layers", "package", "page", "proof-times", "setup", "sources"):
             with self.subTest(tool=name):
-                run = subprocess.run([os.path.join(TOOLS, name), "--nonsense"], capture_output=True, text=True)
-                self.assertEqual((run.returncode, run.stdout, len(run.stderr.splitlines())), (2, "", 1), run.stderr)
-
-
-if __name__ == "__main__":
-    unittest.main()
+                self.refusal(ran([os.path.join(TOOLS, name), "--nonsense"]))

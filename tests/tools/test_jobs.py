@@ -3,7 +3,6 @@ import os
 import signal
 import subprocess
 import sys
-import unittest
 
 from test_sweep import COLUMNS, SCENARIO, STAND_IN
 from tool import LIMIT, TOOLS, ToolCase, text_at, wait_for
@@ -155,8 +154,7 @@ class Jobs(ToolCase):
     def test_a_variant_whose_program_is_killed_is_left(self) -> None:
         """The killed program of seed 4 says nothing of the variant, so that it is run again."""
         self.write("program", STAND_IN.replace("done\n", 'done\n[ "$seed" = 4 ] && kill -9 $$\n'))
-        status, _, err = self.sweep(*self.words, "--share", "1/1", "--results", "results")
-        self.assertEqual(status, 1)
+        _, err = self.ends(1, self.sweep(*self.words, "--share", "1/1", "--results", "results"))
         self.assertIn("sweep: variant 4 is left, as its run was ended by signal 9\n", err)
         status, out, err = self.sweep("--collect", "results")
         self.assertEqual((status, err, len(out.splitlines())), (1, "sweep: 1 of 6 variants are left: 4\n", 11))
@@ -239,25 +237,7 @@ class Jobs(ToolCase):
                       self.sweep("--collect", "results")[2])
 
     def test_faults(self) -> None:
-        share = "--share", "1/2", "--results", "results"
-        for words, line in (
-                ((*self.words, "--share", "1/2"), "--share goes with --results (--help tells the usage)"),
-                ((*self.words, "--results", "r"), "--results goes with --share (--help tells the usage)"),
-                ((*self.words, "--rest"), "--rest goes with --print-jobs (--help tells the usage)"),
-                ((*self.words, "--mark", "3fa9c2d1"), "--mark goes with --share or --collect (--help tells the usage)"),
-                ((*self.words, "--share", "3/2", "--results", "r"),
-                 "3/2 is no share, as 3/50 for the third of fifty"),
-                ((*self.words, *share, "--spread", "seed"),
-                 "a share writes all rows: --require and --spread go with --collect"),
-                ((*self.words, "--print-jobs", "r", "--shares", "0"), "--shares is 1 to 1000000")):
-            with self.subTest(words=words):
-                self.assert_fault(self.sweep(*words), f"sweep: {line}")
-        command = [sys.executable, os.path.join(TOOLS, "sweep"), "-", "--vary", "seed=1", "--print-jobs", "r"]
-        ran = subprocess.run(command, cwd=self.folder, input=SCENARIO, capture_output=True, text=True,
-                             env={**os.environ, "SQS_REHEARSE": self.program})
-        self.assertEqual((ran.returncode, ran.stderr),
-                         (2, "sweep: jobs read the scenario from a file, and not from standard input\n"))
-
-
-if __name__ == "__main__":
-    unittest.main()
+        self.assert_stored_faults("jobs", SQS_REHEARSE=self.program)
+        command = "sweep", "-", "--vary", "seed=1", "--print-jobs", "r"
+        self.assert_fault(self.run_command(*command, stdin=SCENARIO, SQS_REHEARSE=self.program),
+                          "sweep: jobs read the scenario from a file, and not from standard input")

@@ -24,7 +24,3 @@ class Layers(unittest.TestCase):
         crates = layers.read(tool.os.path.join(layers.TOP, "crates.txt"))
         for name in layers.ENGINE:
             self.assertEqual([one for one in layers.below(crates, name) if one.startswith("sqs_")], [])
-
-
-if __name__ == "__main__":
-    unittest.main()

@@ -1,53 +1,9 @@
 """Tests tools/life on logs written by hand from the formats of the log."""
-import os
-import subprocess
-import sys
-import unittest
 
-from tool import HEADER, TOOLS, ToolCase, ended, needs_program, open_end, text_at
+from tool import HEADER, TOOLS, ToolCase, ended, log_at, needs_program, open_end, text_at
 
-LOG = HEADER + """0,a,shop,send,new,m-0-0,,900150983cd24fb0d6963f7d28e17f72
-5,a,shop,send,new,m-0-1,,900150983cd24fb0d6963f7d28e17f72
-1000,a,a,release,visible,m-0-0,,
-1500,a,left,receive,ok,m-0-0,r-0-0-1,o-0-0
-1600,a,shop,delete,ReceiptHandleIsInvalid,,r-0-0-9,
-1700,a,left,change,ok,m-0-0,r-0-0-1,2
-3700,a,a,release,visible,m-0-0,,
-4000,a,left,receive,ok,m-0-0,r-0-0-2,o-0-0
-4000,a,a,redrive,out,m-0-0,,d
-4020,d,a,arrive,new,m-1-0,,o-0-0
-5000,d,back,move,out,m-1-0,,a
-5020,a,back,arrive,new,m-0-2,,o-0-0
-6000,a,right,receive,ok,m-0-2,r-0-2-1,o-0-0
-6100,a,right,fail,ok,m-0-2,r-0-2-1,
-6200,a,left,delete,gone,m-0-0,r-0-0-2,
-7000,a,right,forward,out,m-0-2,r-0-2-1,d
-67000,a,right,delete,deleted,m-0-2,r-0-2-1,61980
-67020,d,right,arrive,new,m-1-1,,o-1-1
-"""
-STORY = """The message o-0-0
-    0 ms  0:00:00.000  a  sent by shop as m-0-0, delayed until 1000 ms
- 1000 ms  0:00:01.000  a  visible
- 1500 ms  0:00:01.500  a  received by left with r-0-0-1; in flight for 2.2 s, until 3700 ms
- 1600 ms  0:00:01.600  a  shop asked for its deletion with r-0-0-9: refused, ReceiptHandleIsInvalid
- 1700 ms  0:00:01.700  a  left changed its visibility timeout to 2 s: in flight at most until 3700 ms
- 3700 ms  0:00:03.700  a  visible
- 4000 ms  0:00:04.000  a  received by left with r-0-0-2; back at once
- 4000 ms  0:00:04.000  a  received often enough: on its way to the dead-letter queue d
- 4020 ms  0:00:04.020  d  arrived from a as m-1-0
- 5000 ms  0:00:05.000  d  taken by the move task back: on its way to a
- 5020 ms  0:00:05.020  a  arrived from back as m-0-2
- 6000 ms  0:00:06.000  a  received by right with r-0-2-1; in flight for 0:01:01.000, until 67000 ms
- 6100 ms  0:00:06.100  a  the service of right failed; it did not delete the message
- 6200 ms  0:00:06.200  a  left asked for its deletion with r-0-0-2: nothing was deleted, as it was gone already
- 7000 ms  0:00:07.000  a  right forwarded it to d, where it is o-1-1 from 67020 ms on
-67000 ms  0:01:07.000  a  deleted by right with r-0-2-1, 0:01:01.980 old
-In the end: deleted from a at 67000 ms
-
-The message o-1-1
-67020 ms  0:01:07.020  d  came as a forward of right, of m-0-2 in a, as m-1-1
-In the end: visible or delayed, which the log alone does not tell, in d since 67020 ms; the log ends at 67020 ms
-"""
+LOG = log_at("life.log")
+STORY = log_at("life.txt")
 FIFO = HEADER + """0,f.fifo,shop,send,new,m-0-0,,900150983cd24fb0d6963f7d28e17f72
 7,f.fifo,shop,send,repeat,m-0-0,,900150983cd24fb0d6963f7d28e17f72
 9,f.fifo,other,arrive,repeat,m-0-0,,o-0-0
@@ -58,8 +14,7 @@ FINAL = "final,d,m-1-1,o-1-1,inflight,90000,67020,3,,900150983cd24fb0d6963f7d28e
 
 class Life(ToolCase):
     def last_line(self, log, name):
-        status, out, _ = self.run_tool("life", self.write("log", log), name)
-        self.assertEqual(status, 0)
+        out, _ = self.ends(0, self.run_tool("life", self.write("log", log), name))
         return out.splitlines()[-1]
 
     def test_whole_story(self):
@@ -73,9 +28,7 @@ class Life(ToolCase):
 
     def test_standard_input_is_read_for_each_kind_of_id(self):
         for name in ("o-0-0", "m-0-2"):
-            run = subprocess.run([sys.executable, os.path.join(TOOLS, "life"), "-", name], input=ended(LOG), text=True,
-                                 capture_output=True)
-            self.assertEqual((run.returncode, run.stdout, run.stderr), (0, STORY, ""))
+            self.assertEqual(self.run_command("life", "-", name, stdin=ended(LOG)), (0, STORY, ""))
 
     def test_hostile_logs(self):
         for name in ("o-0-0", "m-9-9"):
@@ -94,15 +47,7 @@ In the end: expired from f.fifo at 60000 ms
 
     def test_forwards_of_one_consumer_are_taken_in_their_order(self):
         """Of two forwards of hand under way the first arrives first; a repeat uses up the forward that it is of."""
-        log = self.write("log", HEADER + """0,a,shop,send,new,m-0-0,,x
-1,a,shop,send,new,m-0-1,,x
-2,a,hand,forward,out,m-0-0,r-0-0-1,b.fifo
-3,a,hand,forward,out,m-0-1,r-0-1-1,b.fifo
-4,a,hand,forward,out,m-0-1,r-0-1-2,b.fifo
-22,b.fifo,hand,arrive,new,m-1-0,,o-1-0
-23,b.fifo,hand,arrive,new,m-1-1,,o-1-1
-24,b.fifo,hand,arrive,repeat,m-1-1,,o-1-1
-""")
+        log = self.write("log", log_at("forwards.log"))
         _, out, _ = self.run_tool("life", log, "o-0-0")
         self.assertEqual([line for line in out.splitlines() if line.startswith("The")],
                          ["The message o-0-0", "The message o-1-0"])
@@ -151,27 +96,8 @@ In the end: expired from f.fifo at 60000 ms
         self.assertIn(f"```\n{out}```\n", text_at(TOOLS, "README.md"))
 
     def test_faults(self):
-        log = self.write("log", ended(LOG))
-        self.assert_fault(self.run_tool("life", log, "o-0-17"), f"life: {log} has no message with the origin o-0-17")
-        self.assert_fault(self.run_tool("life", log, "m-0-17"), f"life: {log} has no message m-0-17")
-        self.assert_fault(self.run_tool("life", log, "17"), "life: 17 is no id of a message, as o-0-17 or m-0-17")
-        self.assert_fault(self.run_tool("life", "none", "o-0-0"), "life: cannot read none: No such file or directory")
-        for words in ((log,), (log, "o-0-0", "--worst")):
-            self.assert_fault(self.run_tool("life", *words),
-                              "life: an ID or --worst is needed, and not both (--help tells the usage)")
-        self.assert_fault(self.run_tool("life", log, "--worst", "--most", "0"), "life: --most is 1 to 10,000")
-        front = self.write("front", HEADER + "".join(LOG.splitlines(True)[4:]))
-        self.assert_fault(self.run_tool("life", front, "--worst"), f"life: {front} line 2: m-0-0 never came into a: is "
-                          "this the whole log?")
-        cut = self.write("cut", LOG[:-9])
-        self.assert_fault(self.run_tool("life", cut, "o-0-0"), f"life: {cut} line 19 is no row of a log")
-        backward = self.write("backward", LOG + LOG.splitlines()[1] + "\n")
-        self.assert_fault(self.run_tool("life", backward, "o-0-0"),
-                          f"life: {backward} line 20 is earlier than the row before it")
-        other = self.write("other", "a,b\n")
-        self.assert_fault(self.run_tool("life", other, "o-0-0"),
-                          f"life: {other} is no log: its first line is not {HEADER.strip()}")
-
-
-if __name__ == "__main__":
-    unittest.main()
+        lines = LOG.splitlines(True)
+        for name, text in (("log", ended(LOG)), ("front", HEADER + "".join(lines[4:])), ("cut", LOG[:-9]),
+                           ("backward", LOG + lines[1]), ("other", "a,b\n")):
+            self.write(name, text)
+        self.assert_stored_faults("life")

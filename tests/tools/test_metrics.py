@@ -1,47 +1,17 @@
 """Tests tools/metrics on a log whose numbers are worked out by hand."""
 import json
 import os
-import subprocess
-import sys
-import unittest
 
-from tool import HEADER, ROOT, TOOLS, ToolCase, ended, needs_program, text_at
+from tool import HEADER, ROOT, TOOLS, ToolCase, ended, log_at, needs_program, text_at
 
 # In the first minute m-0-0 is sent and received; m-0-1 is sent with a delay that ends in the third minute; a repeat and
 # an empty poll. In the second m-0-0 goes to d, where it arrives in the same minute. In the third m-0-1 becomes visible,
 # and comes as a forward m-1-1 to d. In the fifth m-0-1 is deleted, and deleted again; m-1-0 expires.
-LOG = HEADER + """1000,a,shop,send,new,m-0-0,,x
-2500,a,shop,send,new,m-0-1,,x
-3000,a,shop,send,repeat,m-0-1,,x
-30000,a,c,receive,ok,m-0-0,r-0-0-1,o-0-0
-31000,a,c,receive,wait,,,
-51000,a,c,receive,empty,,,
-60000,a,a,redrive,out,m-0-0,,d
-60020,d,a,arrive,new,m-1-0,,o-0-0
-122500,a,a,release,visible,m-0-1,,
-123000,d,c,arrive,new,m-1-1,,o-1-1
-240000,a,c,receive,ok,m-0-1,r-0-1-1,o-0-1
-240001,a,c,delete,deleted,m-0-1,r-0-1-1,237501
-240002,a,c,delete,gone,m-0-1,r-0-1-1,
-240003,a,c,delete,ReceiptHandleIsInvalid,,r-0-9-1,
-240003,d,d,expire,expired,m-1-0,,239003
-"""
-NAMES = ("second,queue,NumberOfMessagesSent,NumberOfMessagesReceived,NumberOfMessagesDeleted,NumberOfEmptyReceives,"
-         "ApproximateNumberOfMessagesVisible,ApproximateNumberOfMessagesNotVisible,ApproximateNumberOfMessagesDelayed,"
-         "ApproximateAgeOfOldestMessage\n")
+LOG = log_at("metrics.log")
 # The oldest of a is m-0-0, of 59 s after a minute; then m-0-1, of 117.5 s after two. That of d came at 60.02 s, and
 # from the fifth minute on it is m-1-1, which came at 123 s: 177 s before the end.
-ROWS = """0,a,2,1,0,1,0,1,1,59
-60,a,0,0,0,0,0,0,1,117
-120,a,0,0,0,0,1,0,0,177
-180,a,0,0,0,0,1,0,0,237
-240,a,0,1,2,0,0,0,0,0
-0,d,0,0,0,0,0,0,0,0
-60,d,0,0,0,0,1,0,0,59
-120,d,1,0,0,0,2,0,0,119
-180,d,0,0,0,0,2,0,0,179
-240,d,0,0,0,0,1,0,0,177
-"""
+TABLE = log_at("metrics.csv")
+NAMES, *ROWS = TABLE.splitlines(True)
 FINAL = "final,a,m-0-0,o-0-0,delayed,901000,1000,0,,x\n"
 # The run ends after 5 minutes.
 END = "--to", "5min"
@@ -61,14 +31,12 @@ def open_row(clock):
 class Metrics(ToolCase):
     def test_all_numbers(self):
         log = self.write("log", ended(LOG))
-        self.assertEqual(self.run_tool("metrics", log, *END), (0, NAMES + ROWS, ""))
+        self.assertEqual(self.run_tool("metrics", log, *END), (0, TABLE, ""))
         self.assertEqual(self.run_tool("metrics", log, *END, "--queue", "d", "--output", "d.csv"), (0, "", ""))
-        self.assertEqual(text_at(self.path("d.csv")), NAMES + "".join(line for line in ROWS.splitlines(True) if ",d," in line))
+        self.assertEqual(text_at(self.path("d.csv")), NAMES + "".join(line for line in ROWS if ",d," in line))
 
     def test_from_standard_input(self):
-        run = subprocess.run([sys.executable, os.path.join(TOOLS, "metrics"), "-", *END], input=ended(LOG), text=True,
-                             capture_output=True)
-        self.assertEqual((run.returncode, run.stdout, run.stderr), (0, NAMES + ROWS, ""))
+        self.assertEqual(self.run_command("metrics", "-", *END, stdin=ended(LOG)), (0, TABLE, ""))
 
     def test_another_period(self):
         """In one period of five minutes all is counted, and what is left is m-1-1 of d."""
@@ -111,20 +79,10 @@ class Metrics(ToolCase):
         self.assertEqual(out, NAMES + "0,z,0,0,0,0,0,0,0,0\n0,a,2,0,0,0,2,0,0,3600\n0,b,0,0,0,0,0,0,0,0\n")
 
     def test_a_log_that_is_not_of_the_scenario(self):
-        log, scenario = self.write("log", ended(LOG)), self.write("s.toml", HOUR)
-        none = self.write("none.toml", "version = 1\n")
-        for words, line in (
-                (("--scenario", scenario), f"{scenario} has no queue d: is it the scenario of this run?"),
-                (("--scenario", none), f"{none} has no horizon"),
-                (("--to", "4min"), "the log has a row at 0:04:00.003, after --to at 0:04:00.000"),
-                (("--to", "4min", "--scenario", scenario),
-                 "--scenario and --to both tell when the run ends: one is enough"),
-                (("--to", "soon"), "--to soon is no time, as 90s, 1.5h, 1h30m or 1:30:00")):
-            with self.subTest(words=words):
-                self.assert_fault(self.run_tool("metrics", log, *words), f"metrics: {line}")
-        short = self.write("short.toml", HOUR.replace("3600000", "240002").replace('"z"', '"d"'))
-        self.assert_fault(self.run_tool("metrics", log, "--scenario", short), "metrics: the log has a row at "
-                          f"0:04:00.003, after the horizon of {short} at 0:04:00.002")
+        for name, text in (("log", ended(LOG)), ("s.toml", HOUR), ("none.toml", "version = 1\n"),
+                           ("short.toml", HOUR.replace("3600000", "240002").replace('"z"', '"d"'))):
+            self.write(name, text)
+        self.assert_stored_faults("metrics of a scenario")
 
     def test_alarms(self):
         log = self.write("log", ended(LOG))
@@ -172,17 +130,8 @@ class Metrics(ToolCase):
         path = self.write("m.json", json.dumps({"Label": "NumberOfMessagesSent", "Datapoints": points}))
         self.assertEqual(self.run_tool("metrics", log, "--against", path, "--queue", "a")[1],
                          header + "0,a,NumberOfMessagesSent,2,2,0\n")
-        for words, line in (
-                (("--against", path), "the label NumberOfMessagesSent names 0 queues of the log, and has to name one"),
-                (("--against", self.path("m2.json")), f"{self.path('m2.json')} is not what `aws cloudwatch "
-                 "get-metric-data` prints"),
-                (("--against", path, "--queue", "a", "--origin", "2024-05-07T09:59:30Z"),
-                 "a measured period begins 0:00:30.000 from the origin, which is no whole number of periods of 60 s"),
-                (("--against", path, "--alarm", "NumberOfMessagesSent>1"), "--against and --alarm do not go together"),
-                (("--origin", "0"), "--origin goes with --against")):
-            self.write("m2.json", "{}")
-            with self.subTest(words=words):
-                self.assert_fault(self.run_tool("metrics", log, *words), f"metrics: {line}")
+        self.write("m2.json", "{}")
+        self.assert_stored_faults("metrics against")
 
     def test_measurements_of_other_kinds(self):
         log = self.write("log", LOG)
@@ -191,29 +140,19 @@ class Metrics(ToolCase):
                      '{"Datapoints": [{"Timestamp": "1"}]}', '{"Datapoints": [{"Timestamp": "1", "Sum": NaN}]}',
                      '{"Label": "Age", "Datapoints": [{"Timestamp": "1", "Sum": 1}]}'):
             with self.subTest(text=text):
-                status, out, err = self.run_tool("metrics", log, "--against", self.write("m.json", text))
-                self.assertEqual((status, out, len(err.splitlines())), (2, "", 1), err)
+                self.refusal(self.run_tool("metrics", log, "--against", self.write("m.json", text)))
 
     def test_faults(self):
         log = self.write("log", ended(LOG))
-        alone = self.write("alone", LOG)
+        for name, text in (("alone", LOG), ("late", LOG + "9" * 19 + ",a,shop,send,new,m-0-2,,x\n"),
+                           ("cut", HEADER + "".join(LOG.splitlines(True)[4:]))):
+            self.write(name, text)
+        self.assert_stored_faults("metrics")
         names = NAMES.strip().removeprefix("second,queue,").replace(",", ", ")
-        self.assert_faults("metrics", (
-                (("none",), "cannot read none: No such file or directory"),
-                ((log, "--period", "0"), "a period has 1 to 86400 seconds"),
-                ((log, "--period", "1m"), "argument --period: invalid int value: '1m' (--help tells the usage)"),
-                ((alone, "--queue", "x"), "no row of the log is of queue x, and no report follows it"),
-                ((log, "--alarm", "x.NumberOfMessagesSent>1"), "the run has no queue x"),
-                ((log, "--output", "log/x"), "cannot write log/x: Not a directory"),
-                *(((log, "--alarm", text), f"{text} is no alarm, as 'ApproximateAgeOfOldestMessage>300 for 5'; the "
-                   f"metrics are {names}") for text in ("Age>3", "NumberOfMessagesSent>", "NumberOfMessagesSent",
-                                                        "NumberOfMessagesSent>1 for 0"))))
-        late = self.write("late", LOG + "9" * 19 + ",a,shop,send,new,m-0-2,,x\n")
-        self.assert_fault(self.run_tool("metrics", late), "metrics: 166,666,666,666,667 periods of 2 queues are too "
-                          "many: a longer --period is needed")
-        cut = self.write("cut", HEADER + "".join(LOG.splitlines(True)[4:]))
-        self.assert_fault(self.run_tool("metrics", cut),
-                          f"metrics: {cut}: m-0-0 at 30000 never came into a: is this the whole log?")
+        self.assert_faults("metrics", [
+            ((log, "--alarm", text), f"{text} is no alarm, as 'ApproximateAgeOfOldestMessage>300 for 5'; the metrics are "
+                                     f"{names}")
+            for text in ("Age>3", "NumberOfMessagesSent>", "NumberOfMessagesSent", "NumberOfMessagesSent>1 for 0")])
 
     def test_hostile_logs(self):
         self.assert_hostile_logs("metrics")
@@ -228,7 +167,3 @@ class Metrics(ToolCase):
             fields = line.split(",")
             self.assertIn(f"\n{','.join(fields[:4])}, .. ,{fields[-1]}\n", text)
         self.assertIn(alarms, text)
-
-
-if __name__ == "__main__":
-    unittest.main()

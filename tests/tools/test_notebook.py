@@ -88,12 +88,14 @@ class Lists(ToolCase):
             with self.assertRaisesRegex(Fault, "version"):
                 call()
         # The second backoff is 3 s, and each later one: receives at 10, 1110, 4210 and 7310.
-        run = notebook.rehearse(path, as_lists=True, preview=True)
+        run = notebook.rehearse(path, as_lists=True, v3=True)
         self.assertEqual([row["at"] for row in run.rows if row["call"] == "receive" and row["answer"] == "ok"],
                          [10, 1110, 4210, 7310])
-        swept, _ = told(notebook.sweep, path, {"actor.c.backoff_s": [[1, 3], [4]]}, columns=["receives"],
-                        as_lists=True, preview=True)
-        self.assertEqual([row["receives"] for row in swept.rows], [4, 2])
+        self.assertEqual(run, notebook.rehearse(path, as_lists=True, preview=True))
+        for asked in ({"v3": True}, {"preview": True}):
+            swept, _ = told(notebook.sweep, path, {"actor.c.backoff_s": [[1, 3], [4]]}, columns=["receives"],
+                            as_lists=True, **asked)
+            self.assertEqual([row["receives"] for row in swept.rows], [4, 2])
 
     def test_a_sweep_is_that_of_the_command(self) -> None:
         words = ["--vary", "queue.jobs.visibility_s=2,5", "--vary", "seed=1..6"]
@@ -170,7 +172,3 @@ class Lists(ToolCase):
         with mock.patch.object(notebook, "library", side_effect=Fault("missing")):
             for call in (notebook.rehearse, notebook.summary, lambda path: notebook.sweep(path, PLANNED)):
                 self.assertRaisesRegex(Fault, "^a table of pandas needs Debian's package python3-pandas, ", call, SWEPT)
-
-
-if __name__ == "__main__":
-    unittest.main()

@@ -116,7 +116,3 @@ class Older(unittest.TestCase):
             assert ran is not None
             self.assertEqual((ran.returncode, ran.stdout), (2, ""))
             self.assertRegex(ran.stderr, r"^summary needs Python 3\.9 or later, and this is Python 3\.[678]\n$")
-
-
-if __name__ == "__main__":
-    unittest.main()

@@ -14,7 +14,7 @@ import tarfile
 import tempfile
 import unittest
 
-from tool import PROGRAM, ROOT, TOOLS, ToolCase, module_at, needs_program, options_in
+from tool import PROGRAM, ROOT, TOOLS, ToolCase, module_at, needs_program, options_in, ran
 import completions
 import debian
 import helps
@@ -65,8 +65,7 @@ class PackageCase(ToolCase):
     def run_in(self, folder, *words, **more):
         environment = {name: value for name, value in os.environ.items()
                        if not name.startswith(("SQS_REHEARSE", "PYTHON"))}
-        ran = subprocess.run(words, cwd=folder, text=True, capture_output=True, env=environment | more)
-        return ran.returncode, ran.stdout, ran.stderr
+        return ran(words, cwd=folder, env=environment | more)
 
 
 @unittest.skipUnless(shutil.which("dpkg"), "dpkg is not here")
@@ -77,9 +76,9 @@ class Package(PackageCase):
         folder = tempfile.TemporaryDirectory()
         cls.addClassCleanup(folder.cleanup)
         words = ["--program", ECHO, "--output", folder.name]
-        run = subprocess.run([sys.executable, f"{TOOLS}/package", *words], text=True, capture_output=True)
-        assert (run.returncode, run.stderr) == (0, ""), run.stderr
-        cls.made, cls.packed, cls.bill = run.stdout.splitlines()
+        status, out, err = ran([sys.executable, f"{TOOLS}/package", *words])
+        assert (status, err) == (0, ""), err
+        cls.made, cls.packed, cls.bill = out.splitlines()
 
 
     def test_what_is_in_it(self):
@@ -139,9 +138,9 @@ class Package(PackageCase):
         """The package of the tools is whole, without what Python keeps; `sqs_rehearse TOOL` is sqs_rehearse-TOOL."""
         there, installed = (pathlib.Path(folder, "rehearse_tools") for folder in (
             TOOLS, f"{root}/usr/lib/sqs_rehearse/tools"))
-        self.assertEqual(*({str(path.relative_to(folder)) for end in ("*.py", "facts/*.csv") for path in folder.glob(end)}
-                           for folder in (there, installed)))
-        self.assertEqual({path.name for path in installed.iterdir()} - {"__pycache__", "facts"},
+        self.assertEqual(*({str(path.relative_to(folder)) for end in ("*.py", "*.html", "facts/*.csv")
+                            for path in folder.glob(end)} for folder in (there, installed)))
+        self.assertEqual({path.name for path in installed.iterdir()} - {"__pycache__", "facts", "report.html"},
                          {path.name for path in there.glob("*.py")})
         listed = self.run_in("/", "dpkg-deb", "--contents", self.made)[1]
         self.assertTrue("rehearse_tools/summary.py" in listed and "__pycache__" not in listed, listed)
@@ -244,7 +243,7 @@ class Package(PackageCase):
             ["sqs_rehearse", "co"], ["sqs_rehearse", "su"], ["sqs_rehearse", "run", "--w"],
             ["sqs_rehearse", "run", "--scripts", "ro"], ["sqs_rehearse", "compare", "a.toml", "--"]]),
             [["compare"], ["summary"], ["--window", "--window-figures", "--workers"], ["root"],
-             ["--help", "--preview", "--scripts"]])
+             ["--help", "--preview", "--scripts", "--v3"]])
 
     @needs_program
     def test_first_scenario(self):
@@ -370,9 +369,8 @@ def completed(script, folder, lines):
     """What bash has for the last word of each line of words, in the order of the alphabet."""
     text = 'source "$1"; shift; complete -p "${1##*/}" > /dev/null || exit; COMP_WORDS=("$@"); COMP_CWORD=$(($# - 1)); '
     text += '_sqs_rehearse; printf "%s\\n" "${COMPREPLY[@]}"'
-    ran = [subprocess.run(["bash", "-c", text, "bash", script, *words], cwd=folder, stdin=subprocess.DEVNULL, text=True,
-                          capture_output=True) for words in lines]
-    return [sorted(run.stdout.split("\n")[:-1 if run.stdout != "\n" else 0]) + run.stderr.splitlines() for run in ran]
+    runs = [ran(["bash", "-c", text, "bash", script, *words], cwd=folder, stdin=subprocess.DEVNULL) for words in lines]
+    return [sorted(out.split("\n")[:-1 if out != "\n" else 0]) + err.splitlines() for _, out, err in runs]
 
 
 class Helps(ToolCase):
@@ -433,9 +431,8 @@ class Helps(ToolCase):
         for name in self.tools():
             text = helps.text_of(name)
             self.write(f"{name}.1", manual.page_of_tool(name, text, (VERSION, 0), "/doc"))
-        run = subprocess.run(["groff", "-man", "-ww", "-z", *(self.path(f"{name}.1") for name in self.tools())],
-                             capture_output=True, text=True)
-        self.assertEqual((run.returncode, run.stderr), (0, ""))
+        status, _, err = ran(["groff", "-man", "-ww", "-z", *(self.path(f"{name}.1") for name in self.tools())])
+        self.assertEqual((status, err), (0, ""))
 
     def test_completions(self):
         os.mkdir(self.path("calls"))
@@ -484,7 +481,3 @@ class Helps(ToolCase):
         lines = [["sqs_rehearse", name, "--"] for name in self.tools()[:7]]
         for line, options in zip(lines, completed(self.script, self.folder, lines)):
             self.assertEqual(options, sorted({"--help", *options_in(helps.source_of(line[1]))}), line[1])
-
-
-if __name__ == "__main__":
-    unittest.main()

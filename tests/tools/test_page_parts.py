@@ -5,11 +5,10 @@ import json
 import os
 import re
 import shutil
-import subprocess
 import unittest
 from typing import Any
 
-from tool import LIMIT, ToolCase
+from tool import HERE, LIMIT, ToolCase, ran
 import page_text
 from rehearse_tools import explain
 from rehearse_tools.console import read_text
@@ -24,14 +23,6 @@ NUMBERS = ("numbers",)
 ANSWER = ("scenario", "answer")
 # Refusals that the module does not give: it splits no run, starts no thread, and writes to memory alone.
 NOT_OF_THE_PAGE = ("WindowTooLong", "BadMap", "BadWorkers", "NoWorker", "Write")
-# Packs JSON into a link of a form, without the bounds of the page.
-PACKED = """
-const packed = async (form, what) => {
-  const through = new CompressionStream({ 1: 'deflate-raw', 2: 'deflate' }[form]);
-  const stream = new Blob([typeof what === 'string' ? what : JSON.stringify(what)]).stream().pipeThrough(through);
-  return `#${form}${Buffer.from(await new Response(stream).arrayBuffer()).toString('base64url')}`;
-};
-"""
 DAMAGED = "This link is cut or damaged: what it held cannot be shown."
 LATER = "This link is of a later version of the page: what it holds cannot be shown."
 LARGE = "This link holds more than 1 MB, which this page does not unpack: what it holds cannot be shown."
@@ -48,29 +39,22 @@ def sends(horizon: int, count: int, gap: int) -> str:
 @unittest.skipUnless(shutil.which("node"), "node is not here")
 class Parts(ToolCase):
     def asked(self, names: tuple[str, ...], script: str, *values: Any) -> Any:
-        """What a script returns that has what modules of the page export, and `values`."""
+        """What a script returns that has what modules of the page and page-parts.js export, and `values`."""
         folder = self.path("modules")
         if not os.path.exists(folder):
             os.mkdir(folder)
             page_text.write_modules(folder)
-        imports = "".join(f"Object.assign(globalThis, await import({json.dumps(os.path.join(folder, f'{name}.js'))}));\n"
-                          for name in names)
-        text = (f"const values = {json.dumps(values)};\n{imports}\n{PACKED}\n"
+        paths = [*(os.path.join(folder, f"{name}.js") for name in names), os.path.join(HERE, "page-parts.js")]
+        imports = "".join(f"Object.assign(globalThis, await import({json.dumps(path)}));\n" for path in paths)
+        text = (f"const values = {json.dumps(values)};\n{imports}\n"
                 f"(async () => {{ {script} }})().then(it => console.log(JSON.stringify(it)));\n")
-        ran = subprocess.run(["node", "--input-type=module", "-"], input=text, capture_output=True, text=True, timeout=LIMIT)
-        self.assertEqual((ran.returncode, ran.stderr), (0, ""))
-        return json.loads(ran.stdout)
+        status, out, err = ran(["node", "--input-type=module", "-"], input=text, timeout=LIMIT)
+        self.assertEqual((status, err), (0, ""))
+        return json.loads(out)
 
     def test_links_that_open(self) -> None:
         """A link opens as what it was made of: one text or two, with scripts of any bytes; those of form 1 too."""
-        told = self.asked(PAGE, """
-            const file = { name: 'a.csv', bytes: Uint8Array.from([0, 200, 255]) }, found = [];
-            for (const [texts, files] of [[['a = 1 # \\u{1f600}'], []], [['', 'b'], [file]]]) {
-              const link = await linkOf(texts, files), it = await linkedIn(link);
-              found.push([link.slice(0, 2), it.texts, it.files.map(({ name, bytes }) => [name, [...bytes]])]);
-            }
-            for (const texts of [['one'], ['a', 'b']]) found.push(await linkedIn(await packed(1, texts)));
-            return found;""")
+        told = self.asked(PAGE, "return linksThatOpen();")
         self.assertEqual(told, [
             ["#2", ["a = 1 # \U0001f600"], []], ["#2", ["", "b"], [["a.csv", [0, 200, 255]]]],
             {"texts": ["one"], "files": []}, {"texts": ["a", "b"], "files": []}])
@@ -78,17 +62,7 @@ class Parts(ToolCase):
     def test_each_damage_is_seen(self) -> None:
         """A link that is cut anywhere, or has another letter anywhere, opens nothing."""
         text = read_text(os.path.join(TOP, "examples", "first.toml"))
-        told = self.asked(PAGE, """
-            const link = await linkOf(values, []), found = new Set(), opened = [];
-            for (let i = 1; i < link.length; i++) {
-              const cut = link.slice(0, i), changed = `${cut}${link[i] === 'A' ? 'B' : 'A'}${link.slice(i + 1)}`;
-              for (const it of [cut, changed]) {
-                const { fault, texts } = await linkedIn(it);
-                found.add(fault);
-                if (texts) opened.push(it);
-              }
-            }
-            return [[...found], opened, link.length > 200];""", text)
+        told = self.asked(PAGE, "return eachDamageIsSeen(values);", text)
         self.assertEqual(told, [[DAMAGED], [], True])
 
     def test_what_is_no_link(self) -> None:
@@ -106,20 +80,7 @@ class Parts(ToolCase):
     def test_a_link_unpacks_one_megabyte(self) -> None:
         """A text of 1 MB with its quotes opens, and one byte more is refused, as are 64 MB, of which 2 MB at most are
         unpacked. No link is made that would be refused."""
-        told = self.asked(PAGE, """
-            const made = DecompressionStream;
-            let unpacked = 0;
-            globalThis.DecompressionStream = function (form) {
-              const count = new TransformStream({ transform(it, to) { unpacked += it.length; to.enqueue(it); } });
-              const { readable, writable } = new made(form);
-              return { readable: readable.pipeThrough(count), writable };
-            };
-            const large = length => packed(1, ['a'.repeat(length - 4)]), found = [];
-            found.push((await linkedIn(await large(1e6))).texts[0].length);
-            for (const length of [1e6 + 1, 64e6]) found.push((await linkedIn(await large(length))).fault);
-            const files = [{ name: 'b', bytes: { length: 1e9 } }];
-            const makes = [await linkOf(['a'.repeat(1e6 - 3)], []), await linkOf(['a'], files)];
-            return [found, unpacked < 4e6, makes, (await linkOf(['a'.repeat(1e6 - 4)], [])).length < 30000];""")
+        told = self.asked(PAGE, "return aLinkUnpacksOneMegabyte();")
         self.assertEqual(told, [[999_996, LARGE, LARGE], True, [None, None], True])
 
     def test_what_waits(self) -> None:
@@ -136,6 +97,8 @@ class Parts(ToolCase):
             (polls(horizon=2_592_000_000, idle=1), many.format("2,592,000,000")),
             (sends(horizon=2_000_000_000, count=500_000, gap=1), ""),
             (sends(horizon=2_000_000_000, count=500_001, gap=1), many.format("2,000,004")),
+            (sends(horizon=2_000_000_000, count=500, gap=1) + "copies = 1000\n", ""),
+            (sends(horizon=2_000_000_000, count=501, gap=1) + "copies = 1000\n", many.format("2,004,000")),
             (sends(horizon=1_000, count=1_000_000, gap=1), ""), (sends(horizon=1, count=9, gap=0), ""),
             (20 * script, ""), (21 * script, many.format("2,100,000")), ("no TOML", ""), ("", ""))
         told = self.asked(PAGE, """const files = [{ name: 'a.csv', bytes: { length: 400000 } }];
@@ -163,7 +126,7 @@ class Parts(ToolCase):
         asked, wanted = [], []
         for case in stored(*REFUSED):
             refusal = explain.REFUSED.fullmatch(case.line)
-            # the page reads a preview; of a text that is no TOML, or a script's record, it knows less
+            # the page reads version 3, too; of a text that is no TOML, or a script's record, it knows less
             is_known = refusal is not None and refusal[2] not in ("NotToml", "BadScript") and refusal[3] != "version"
             if refusal and is_known and b"\r" not in case.text:
                 text = case.text.decode()
@@ -176,27 +139,13 @@ class Parts(ToolCase):
     def test_figures(self) -> None:
         """Each figure is of its queue or agent, and one without a value is none; a line is found behind the log."""
         text = "0,q,a\nreport,queue,x\nreport,q,1\nfigure,of,name,value\nfigure,q,left,3\nfigure,q,age_p95_ms,\nfigure,c,busy_ms,5\n"
-        told = self.asked(("log", "simulator", "figures"), """
-            const bytes = encoded(values[0]), at = lastLine(bytes, 'figure,of,', bytes.length);
-            return [at, lastLine(bytes, 'report,queue,', at), [...figuresIn(bytes, at)],
-              recordsOf(bytes, 6, at, 'report')];""", text)
+        told = self.asked(("log", "simulator", "figures"), "return figuresOfALog(values);", text)
         self.assertEqual(told, [text.index("figure"), text.index("report"), [
             ["q", {"left": 3, "age_p95_ms": None}], ["c", {"busy_ms": 5}]], [["report", "queue", "x"], ["report", "q", "1"]]])
 
     def test_handled_again(self) -> None:
         """A message is handled by each receipt that is given and first used to delete, unless its service failed."""
-        told = self.asked(("log", "queue"), """
-            const queue = new Queue('q', 0), at = receive => 1 * RECEIVES + receive;
-            queue.enters(0, 0);
-            queue.enters(0, 1);
-            for (let receive = 1; receive < 5; receive++) queue.receivesOne(receive, 1);
-            queue.used.add(at(1));
-            for (const receive of [1, 2, 2, 9, 0]) queue.usesReceipt(at(receive));
-            queue.usesReceipt(-1);
-            const before = [queue.handledOnce, queue.handledMore];
-            queue.deletes(9, 1, at(4), 9);
-            for (const receive of [4, 3, 3]) queue.usesReceipt(at(receive));
-            return [before, [queue.handledOnce, queue.handledMore], queue.timesHandledMost, queue.triesMost, queue.places];""")
+        told = self.asked(("log", "queue"), "return handledAgain();")
         self.assertEqual(told, [[1, 0], [0, 1], 3, 4, [1, 0, 0, 1]])
 
     def test_quoted_fields(self) -> None:
@@ -208,9 +157,7 @@ class Parts(ToolCase):
     def test_places_over_time(self) -> None:
         """A message comes at 10 ms and leaves at 95 of 100: in columns of 20 ms it is there half of the first, and three
         quarters of the last."""
-        told = self.asked(WORKER, """
-            const queue = { times: { whole: [10, 95] }, changes: { whole: [ENTERED, 4 * VISIBLE + NOWHERE] } };
-            return placesOverTime(queue, 0, 100, 5).map(it => [...it.means, it.least[4], it.greatest[4]]);""")
+        told = self.asked(WORKER, "return placesOfOneMessage();")
         self.assertEqual(told, [[0.5, 1, 1, 1, 0.75, 0, 1], 7 * [0], 7 * [0]])
 
     def test_counts_over_time(self) -> None:
@@ -221,20 +168,7 @@ class Parts(ToolCase):
 
     def test_a_room_that_is_too_short(self) -> None:
         """A run whose answer has no room is run again with a room of just its length, and its answer is shown."""
-        told = self.asked(WORKER, """
-            const memory = new WebAssembly.Memory({ initial: 4 }), rooms = [];
-            let end = 8;
-            const room = size => { rooms.push(Number(size)); const at = end; end += 64; return BigInt(at); };
-            const rehearse = (...words) => {
-              const [at, size, needed] = words.slice(-3).map(Number);
-              new DataView(memory.buffer).setBigUint64(needed, 5n, true);
-              if (size !== 5) return NO_ROOM;
-              new Uint8Array(memory.buffer, at, 5).set(encoded('whole'));
-              return DONE;
-            };
-            WebAssembly.instantiate = async () => ({ exports: { memory, room, rehearse } });
-            const { code, bytes } = await answered(null, 'rehearse', { isPreview: true }, ['a'], []);
-            return [code, new TextDecoder().decode(bytes), rooms.includes(Number(ROOM)), rooms.includes(5)];""")
+        told = self.asked(WORKER, "return aRoomThatIsTooShort();")
         self.assertEqual(told, [0, "whole", True, True])
 
     def values(self, queue: str, **numbers: Any) -> dict[str, Any]:
@@ -252,12 +186,7 @@ class Parts(ToolCase):
                            depth_greatest=7, depth_greatest_at_ms=5)
         runs = ([[orders, failed], [["packer", 870]]], [[orders, failed, mail], [["packer", 870], ["mailer", 901]]],
                 [[self.values("q")], [["site", 996]]])
-        told = self.asked(ANSWER, """
-            const runs = values[0].map(([values, busy]) => ({ values, last: 598123, forDeadLetters: ['failed'],
-              consumers: ['packer', 'mailer'], busy: busy.map(([name, permille]) => ({ name, permille })) }));
-            return runs.map(run => [sentenceOf(run), tilesOf(run)
-              .map(({ label, number, written, note, name }) => [label, number === null ? null : written(number),
-                note || name || ''])]);""",
+        told = self.asked(ANSWER, "return theAnswer(values);",
                           runs)
         self.assertEqual([sentence for sentence, _ in told], [
             "In 9 min 58 s, 42 messages came into orders: 39 were deleted, 2 were dead-lettered to failed and 1 is left at "
@@ -291,11 +220,7 @@ class Parts(ToolCase):
     def test_the_network(self) -> None:
         """Queues, groups of actors that do the same, tasks, and the edges between them, with the rows that tell their
         numbers; what names no queue is left out, and copies are agents of their own."""
-        told = self.asked(("scenario", "network"), """
-            const { nodes, edges } = networkOf(new Scenario(values[0]));
-            return [nodes.map(it => [it.id, it.kind, calledOf(it)]),
-              edges.map(({ from, to, kind, flow }) => [from, to, kind, flow.queue, flow.agents.join(), flow.row]
-                .concat(flow.share ?? []))];""",
+        told = self.asked(("scenario", "network"), "return theNetwork(values);",
                           "".join([
                               queue_of("a", dead_letter="d"), queue_of("d"), queue_of("b", dead_letter="b"),
                               table("actor", name="p", kind="producer", queue="a"),
@@ -321,10 +246,7 @@ class Parts(ToolCase):
 
     def test_numbers_at_moments(self) -> None:
         """A row counts from its own moment on, and a message is where its last change put it by then."""
-        told = self.asked(("queue", "moments"), """
-            const question = { from: 0, to: 100, count: 5 }, changes = [ENTERED, 4 * VISIBLE + 1, 4 * 1 + NOWHERE];
-            return [[...countsAt([0, 24, 25, 26, 100, 101], question)],
-              placesAt([25, 30, 75], changes, question).map(it => [...it])];""")
+        told = self.asked(("queue", "moments"), "return numbersAtMoments();")
         self.assertEqual(told, [[1, 3, 4, 4, 5], [[0, 1, 0, 0, 0], [0, 0, 1, 0, 0], 5 * [0]]])
 
     def test_numbers_in_words(self) -> None:
@@ -397,9 +319,7 @@ class Parts(ToolCase):
         with open(self.path("public/preview.png"), "rb") as file:
             self.assertEqual(file.read(4), b"\x89PNG")
         for more, line in (((), "--site and --address go together"), (("--address", "example.org"), "is no address of a folder")):
-            status, out, err = self.run_tool("page", *words, *more)
-            self.assertEqual((status, out), (2, ""))
-            self.assertIn(line, err)
+            self.assertIn(line, self.refusal(self.run_tool("page", *words, *more)))
 
     def test_out_of_memory(self) -> None:
         """What browsers say when memory is out is shown as that; other errors are not."""
@@ -408,11 +328,5 @@ class Parts(ToolCase):
                 "allocation size overflow", "Invalid typed array length: 4294967296", "invalid array length")
         told = self.asked(WORKER, "return values[0].map(it => toldOf(new RangeError(it)));", said)
         self.assertEqual(told, [f"There was not enough memory for this run: {it}." for it in said])
-        told = self.asked(WORKER, """const errors = [new WebAssembly.RuntimeError('unreachable'), new Error('x'),
-              new Error('There is no memory for the output.')];
-            return errors.map(toldOf);""")
+        told = self.asked(WORKER, "return outOfMemory();")
         self.assertEqual(told, ["The run was broken off: unreachable.", "x", "There is no memory for the output."])
-
-
-if __name__ == "__main__":
-    unittest.main()

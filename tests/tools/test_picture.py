@@ -6,7 +6,7 @@ import os
 import re
 import unittest
 
-from tool import HEADER, ROOT, ToolCase, ended, module_of, needs_program, row_of, text_at
+from tool import HEADER, ROOT, ToolCase, ended, log_at, module_of, needs_program, row_of, text_at
 from rehearse_tools.console import Fault, library
 from rehearse_tools.logs import Log
 from rehearse_tools.histories import (PLACES, Course, Histories, History, ages_in, copies_levels, counts_in, course_of,
@@ -20,17 +20,7 @@ except Fault:
 needs_numpy = unittest.skipUnless(numpy, "matplotlib is missing, which tools/setup installs")
 picture = module_of("picture")
 
-LOG = HEADER + """0,a,shop,send,new,m-0-0,,900150983cd24fb0d6963f7d28e17f72
-5,a,shop,send,new,m-0-1,,900150983cd24fb0d6963f7d28e17f72
-1000,a,a,release,visible,m-0-0,,
-1500,a,left,receive,ok,m-0-0,r-0-0-1,o-0-0
-1500,a,left,receive,ok,m-0-1,r-0-1-1,o-0-1
-2500,a,left,delete,deleted,m-0-0,r-0-0-1,2500
-3500,a,a,release,visible,m-0-1,,
-4000,a,left,receive,ok,m-0-1,r-0-1-2,o-0-1
-6000,a,a,redrive,out,m-0-1,,d
-6020,d,a,arrive,new,m-1-0,,o-0-1
-"""
+LOG = log_at("picture.log")
 
 
 
@@ -370,32 +360,19 @@ class Tool(ToolCase):
         self.assertLess(len(out), 700_000)
 
     def test_faults(self):
-        log = self.write("log", ended(LOG))
-        alone = self.write("alone", LOG)
-        self.assert_faults("picture", (
-                (("none",), "cannot read none: No such file or directory"),
-                ((self.write("empty", HEADER),), f"{self.path('empty')} has no rows to draw"),
-                ((log, "--queue", "x"), "the run has no queue x"),
-                ((alone, "--queue", "x"), "no row of the log is of queue x, and no report follows it"),
-                ((log, "--title", "a\x01b"), "a title is one line of printable characters: 'a\\x01b'"),
-                ((log, "--width", "639"), "a width of 639 will not do: it is 640 to 20000"),
-                ((log, "--width", "x"), "argument --width: invalid int value: 'x' (--help tells the usage)"),
-                ((log, "--from", "9", "--to", "9"), "there is no time from 9 to 9 ms"),
-                ((log, "--output", "p.jpg"), "p.jpg ends in none of .svg, .png, .pdf"),
-                ((log, "--output", "p"), "p ends in none of .svg, .png, .pdf"),
-                ((log, "--output", "log/p.svg"), "cannot write log/p.svg: Not a directory"),
-                ((log, "--scenario", "none.toml"), "cannot read none.toml: No such file or directory"),
-                ((log, "--height", "60000"), "a height of 60000 is too great: 50000 is the most"),
-                ((self.write("cut", "".join(LOG.splitlines(True)[:1] + LOG.splitlines(True)[3:])),),
-                 f"{self.path('cut')} line 2: m-0-0 cannot be: is this the whole log?")))
+        for name, text in (("log", ended(LOG)), ("alone", LOG), ("empty", HEADER),
+                           ("cut", "".join(LOG.splitlines(True)[:1] + LOG.splitlines(True)[3:]))):
+            self.write(name, text)
+        self.assert_stored_faults("picture")
+        self.assert_fault(self.run_tool("picture", "log", "--title", "a\x01b"),
+                          "picture: a title is one line of printable characters: 'a\\x01b'")
 
     def test_hostile_logs(self):
         self.assert_hostile_logs("picture")
 
     def test_a_height_that_is_too_small_tells_one_that_is_enough(self):
         log = self.write("log", ended(LOG))
-        status, _, err = self.run_tool("picture", log, "--height", "100")
-        self.assertEqual(status, 2)
+        _, err = self.ends(2, self.run_tool("picture", log, "--height", "100"))
         enough = err.split(": ")[-1].split()[0]
         self.assertEqual(self.run_tool("picture", log, "--height", enough, "--output", "p.png")[0], 0)
 
@@ -410,7 +387,3 @@ class Tool(ToolCase):
         self.assertGreater(len(texts[0]), 40)
         if f"Matplotlib v{matplotlib.__version__}," in stored:
             self.assertEqual(out, stored)
-
-
-if __name__ == "__main__":
-    unittest.main()

@@ -215,7 +215,3 @@ class Poison(unittest.TestCase):
             means.append((mean, our_mean))
         for side in zip(*means):
             self.assertGreater(side[1], 1.05 * side[0])
-
-
-if __name__ == "__main__":
-    unittest.main()

@@ -11,7 +11,8 @@ import sys
 import tty
 import unittest
 
-from tool import LIMIT, PROGRAM as PROVED, ROOT, ToolCase, module_of, needs_program, read_whole, wait_for
+from tool import (HERE, LIMIT, PROGRAM as PROVED, ROOT, ToolCase, module_of, needs_program, ran, read_whole, text_at,
+                  wait_for)
 from stored_cases import stored
 
 BUILD_IT = "./sqs_rehearse --build builds it"
@@ -36,14 +37,7 @@ OTHER_MACHINE = {"OSTYPE": "darwin23", "HOSTTYPE": "arm64"}
 UNAME, NODE_NOTE = "#!/bin/sh\necho Darwin arm64\n", (
     "sqs_rehearse: Node runs the proved module of dist/playground.html here, on one thread\n")
 # In the place of tools/build: it makes a program and goes on as the command that follows.
-BUILD = """#!/bin/bash
-echo build >> "$CALLS"
-if [ "$FAILS" ]; then echo no program >&2; exit 2; fi
-mkdir -p "${0%/*}/../crates/sqs_rehearse/out"
-printf '#!/bin/sh\\necho built "$@"\\n' > "${0%/*}/../crates/sqs_rehearse/out/sqs_rehearse"
-chmod +x "${0%/*}/../crates/sqs_rehearse/out/sqs_rehearse"
-if [ $# -gt 0 ]; then shift; exec "$@"; fi
-"""
+BUILD = text_at(HERE, "stand-ins", "build")
 # In the place of gzip: it unpacks once, to be compared, and then takes long.
 SLOW_GZIP = """#!/bin/bash
 if mkdir "$CALLS.first" 2> /dev/null; then exec /bin/gzip "$@"; fi
@@ -92,9 +86,7 @@ class WrapperCase(ToolCase):
         return [path for path in found if path.is_file() and path.parent.name != "checked"]
 
     def run_it(self, *words, program="sqs_rehearse", **more):
-        ran = subprocess.run([self.path(program), *words], env={**self.environment, **more}, text=True,
-                             stdin=subprocess.DEVNULL, capture_output=True, cwd="/")
-        return ran.returncode, ran.stdout, ran.stderr
+        return ran([self.path(program), *words], env={**self.environment, **more}, stdin=subprocess.DEVNULL, cwd="/")
 
     def calls(self):
         return pathlib.Path(self.path("calls")).read_text().split() if os.path.exists(self.path("calls")) else []
@@ -204,10 +196,10 @@ class Dist(WrapperCase):
     def test_folders_that_cd_looks_through(self):
         """With CDPATH, cd prints where it went, and may go to another folder than was named."""
         self.make_dist()
-        ran = subprocess.run([os.path.join(os.path.basename(self.folder), "sqs_rehearse"), "run"], text=True,
-                             cwd=os.path.dirname(self.folder), stdin=subprocess.DEVNULL, capture_output=True,
-                             env={**self.environment, "CDPATH": ".:/", "SQS_REHEARSE_BUILD": "never"})
-        self.assertEqual((ran.returncode, ran.stdout), (0, "packed run\n"), ran.stderr)
+        status, out, err = ran([os.path.join(os.path.basename(self.folder), "sqs_rehearse"), "run"],
+                               cwd=os.path.dirname(self.folder), stdin=subprocess.DEVNULL,
+                               env={**self.environment, "CDPATH": ".:/", "SQS_REHEARSE_BUILD": "never"})
+        self.assertEqual((status, out), (0, "packed run\n"), err)
 
     def test_damage(self):
         self.make_dist()
@@ -322,9 +314,8 @@ class Dist(WrapperCase):
         for name in ("sqs_rehearse", "crates.txt"):
             shutil.copy(self.path(name), other)
         self.write("other/crates/sim_a/src/lib.rt", "other")
-        ran = subprocess.run([f"{other}/sqs_rehearse", "run"], env={**self.environment, "SQS_REHEARSE_BUILD": "never"},
-                             capture_output=True, text=True)
-        self.assertEqual((ran.returncode, ran.stderr), (2, f"sqs_rehearse: {OTHER_SOURCES}\n"))
+        status, _, err = ran([f"{other}/sqs_rehearse", "run"], env={**self.environment, "SQS_REHEARSE_BUILD": "never"})
+        self.assertEqual((status, err), (2, f"sqs_rehearse: {OTHER_SOURCES}\n"))
         before = len(self.calls())
         self.assertEqual(self.run_it("run"), (0, "packed run\n", ""))
         self.assertEqual(len(self.calls()), before)
@@ -349,10 +340,9 @@ class Dist(WrapperCase):
                  "allowed (ulimit -n)")):
             if changed:
                 os.utime(self.path("crates.txt"))
-            ran = subprocess.run(["bash", "-c", f'ulimit -n {few}; exec "$0" run {held}', self.path("sqs_rehearse")],
-                                 env=self.environment, stdin=subprocess.DEVNULL, capture_output=True, text=True)
-            wanted = (2, f"sqs_rehearse: {said}\n") if said else (0, "")
-            self.assertEqual((ran.returncode, ran.stderr), wanted)
+            status, _, err = ran(["bash", "-c", f'ulimit -n {few}; exec "$0" run {held}', self.path("sqs_rehearse")],
+                                 env=self.environment, stdin=subprocess.DEVNULL)
+            self.assertEqual((status, err), (2, f"sqs_rehearse: {said}\n") if said else (0, ""))
         os.remove(self.path("calls"))
         self.assertEqual(self.calls(), [])
 
@@ -481,9 +471,9 @@ class ByNode(WrapperCase):
         self.make_dist()
 
     def run_there(self, *words, stdin=b"", **more):
-        ran = subprocess.run([self.path("sqs_rehearse"), *words], cwd=self.folder, capture_output=True, input=stdin,
-                             env={**self.environment, **OTHER_MACHINE, **more})
-        return ran.returncode, ran.stdout, ran.stderr.decode()
+        status, out, err = ran([self.path("sqs_rehearse"), *words], text=False, cwd=self.folder, input=stdin,
+                               env={**self.environment, **OTHER_MACHINE, **more})
+        return status, out, err.decode()
 
     def test_without_node(self):
         needed = "the program of dist/ is for Linux on x86-64, and this is Darwin arm64: Node 18 or later runs the " \
@@ -495,12 +485,12 @@ class ByNode(WrapperCase):
 
     @unittest.skipUnless(shutil.which("node"), "node is not here")
     def test_stored_cases(self):
-        """A tenth of the stored cases, by their outputs and statuses; those of version 3 only as a preview."""
+        """A tenth of the stored cases, by their outputs and statuses; those of version 3 by either word."""
         cases = stored()
         self.assertGreater(len(cases), 200)
-        for case in cases[::10]:
+        for number, case in enumerate(cases[::10]):
             with self.subTest(case=case.path):
-                words = ("--preview",) if case.is_preview else ()
+                words = (("--v3", "--preview")[number % 2],) if case.is_version_3 else ()
                 wanted = (1, b"", NODE_NOTE + case.printed.decode()) if case.is_refused else (0, case.printed, NODE_NOTE)
                 self.assertEqual(self.run_there("run", *words, stdin=case.text), wanted)
                 if words and b"\nversion = 3\n" in b"\n" + case.text:
@@ -552,8 +542,8 @@ class ByNode(WrapperCase):
                       ["run", "--figures", "b.toml"], ["run", "--from", "+900", "--to=20000", "b.toml"],
                       ["run", "--backlog", "0", "--window-figures", "5000", "b.toml"],
                       ["run", "--to", "18446744073709551615", "b.toml"]):
-            ran = subprocess.run([PROVED, *words], cwd=self.folder, capture_output=True)
-            wanted = ran.returncode, ran.stdout, NODE_NOTE + ran.stderr.decode()
+            status, out, err = ran([PROVED, *words], text=False, cwd=self.folder)
+            wanted = status, out, NODE_NOTE + err.decode()
             log = pathlib.Path(self.path("x.log")).read_bytes() if words[1].startswith("--log") else b""
             self.assertEqual(self.run_there(*words), wanted, words)
             self.assertEqual(pathlib.Path(self.path("x.log")).read_bytes() if log else b"", log)
@@ -673,8 +663,7 @@ class Words(WrapperCase):
         self.assertEqual(self.run_it("summary", "a b", "--help"), (0, f"{called} summary a b --help\n", ""))
         self.assertEqual(self.run_it("help", "summary"), (0, f"{called} summary --help\n", ""))
         os.symlink(called, self.path("kit/sqs_rehearse"))
-        ran = subprocess.run(["sqs_rehearse", "summary", "x"], env=self.environment, text=True, capture_output=True)
-        self.assertEqual((ran.stdout, ran.stderr), ("sqs_rehearse summary x\n", ""))
+        self.assertEqual(ran(["sqs_rehearse", "summary", "x"], env=self.environment)[1:], ("sqs_rehearse summary x\n", ""))
         for name in ("bash", "sha256sum", "readlink", "env"):
             os.symlink(shutil.which(name), self.path(f"kit/{name}"))
         self.assert_refused(["summary"], "summary needs Python 3.9 or later, and python3 is not on the PATH; "
@@ -693,18 +682,15 @@ class Words(WrapperCase):
         with open(writer, "wb") as file:
             file.write(b"x" * 50_000)
         with open(reader, "rb") as file:
-            ran = subprocess.run([self.path("sqs_rehearse"), "summary", "-"], env=self.environment, stdin=file,
-                                 capture_output=True, text=True)
-            self.assertEqual((ran.returncode, ran.stderr, file.read()), (2, f"sqs_rehearse: {line}\n", b""))
+            status, _, err = ran([self.path("sqs_rehearse"), "summary", "-"], env=self.environment, stdin=file)
+            self.assertEqual((status, err, file.read()), (2, f"sqs_rehearse: {line}\n", b""))
         self.make_program("kit/python3", "#!/bin/sh\nexit 1\n")
         self.assert_refused(["summary"], "summary needs Python 3.9 or later, and python3 does not run")
 
     def test_the_package_with_an_older_python(self):
         text = "import sys; sys.version_info = (3, 8, 1); sys.argv = ['tools/summary']; import rehearse_tools"
-        ran = subprocess.run([sys.executable, "-c", text], cwd=os.path.join(ROOT, "tools"), capture_output=True,
-                             text=True)
-        self.assertEqual((ran.returncode, ran.stdout, ran.stderr),
-                         (2, "", "summary needs Python 3.9 or later, and this is Python 3.8\n"))
+        self.assert_fault(ran([sys.executable, "-c", text], cwd=os.path.join(ROOT, "tools")),
+                          "summary needs Python 3.9 or later, and this is Python 3.8")
 
     def test_a_log_over_what_is_read(self):
         """Also by another name of the file, as standard input, and as a script; else the program is run."""
@@ -725,10 +711,9 @@ class Words(WrapperCase):
                 log = " ".join(words).replace("--log=", "--log ").partition("--log ")[2].split()[0]
                 self.assert_refused(["run", *words], NO_LOG.format(log, read))
         with open(scenario, "rb") as file:
-            ran = subprocess.run([self.path("sqs_rehearse"), "run", "--log", self.path("linked")], stdin=file,
-                                 env=self.environment, text=True, capture_output=True)
-        self.assertEqual((ran.returncode, ran.stderr),
-                         (2, f"sqs_rehearse: {NO_LOG.format(self.path('linked'), '/dev/stdin')}\n"))
+            status, _, err = ran([self.path("sqs_rehearse"), "run", "--log", self.path("linked")], stdin=file,
+                                 env=self.environment)
+        self.assertEqual((status, err), (2, f"sqs_rehearse: {NO_LOG.format(self.path('linked'), '/dev/stdin')}\n"))
         for log in (f"{scripts}/c.csv", self.path("new"), "/dev/null"):
             self.assertEqual(self.run_it("run", "--scripts", scripts, "--log", log, scenario)[0], 0)
 
@@ -739,7 +724,3 @@ class Words(WrapperCase):
         for words in ((self.path("s.toml"),), (self.path("s.toml"), "--program", self.path("sqs_rehearse"))):
             self.assert_fault(self.run_it(*words, program="tools/explain"), f"explain: {NO_DIST}")
         self.assertEqual(self.calls(), [])
-
-
-if __name__ == "__main__":
-    unittest.main()

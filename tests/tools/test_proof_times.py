@@ -1,6 +1,5 @@
 """Tests tools/proof-times over files as a check leaves them."""
 import os
-import unittest
 
 from tool import ToolCase, module_of
 
@@ -37,7 +36,3 @@ class ProofTimes(ToolCase):
     def test_no_such_crate(self):
         self.assertEqual(self.run_tool("proof-times", "sqs_nowhere"),
                          (2, "", "proof-times: there is no crate sqs_nowhere\n"))
-
-
-if __name__ == "__main__":
-    unittest.main()

@@ -1,6 +1,14 @@
-"""Tests tools/quantiles: what the program draws by its tables, and means of times whose law is known."""
+"""Tests tools/quantiles: what the program draws by its tables, and how long messages wait whose times have a known law.
+
+The waits are those of one consumer with a load of 80 % and arrivals at random, by the formulas of Pollaczek and
+Khinchine. With the mean m and the mean square q of the times the mean wait is r q / 2 (1 - r m), where r messages come
+in a unit of time. So it is off by the share by which q is off, and by four times that of m.
+"""
+import bisect
+import functools
 import itertools
 import math
+import operator
 import random
 import statistics
 import unittest
@@ -19,6 +27,42 @@ def drawn(pairs, count=10_000):
     words = [word * 1_000 for word in range(2 ** 32 // (2 * count), 2 ** 32, 2 ** 32 // count)]
     return [low + (word - (start << 32)) * (high - low) // (end - start << 32)
             for (start, low), (end, high) in zip(pairs, pairs[1:]) for word in words if start << 32 <= word < end << 32]
+
+
+def lognormal(deviation, seed=None, count=10_000):
+    """Times with a median of 100 ms: random ones, or without a seed those that are spread evenly over the law."""
+    chance = random.Random(seed)
+    normals = ((chance.gauss(0, 1) for _ in range(count)) if seed is not None else
+               (statistics.NormalDist().inv_cdf((place + 0.5) / count) for place in range(count)))
+    return sorted(max(1, 100 * math.exp(deviation * normal)) for normal in normals)
+
+
+def mean_and_square(times):
+    return statistics.fmean(times), statistics.fmean(time * time for time in times)
+
+
+def mean_wait(mean, square, rate):
+    return rate * square / 2 / (1 - rate * mean)
+
+
+def wait_95(times, rate):
+    """The wait that 95 of 100 messages have at most. It is the sum of k times of the law of what is left of a service
+    that has begun, with probability (1 - load) load^k; here by its recursion in steps of a tenth of the mean."""
+    count, mean = len(times), statistics.fmean(times)
+    load, step, sums = rate * mean, mean / 10, [0.0, *itertools.accumulate(times)]
+
+    @functools.lru_cache(None)
+    def left(steps):
+        """The share of what is left that is at most so many steps and a half."""
+        most = (steps + 0.5) * step
+        place = bisect.bisect(times, most)
+        return (sums[place] + (count - place) * most) / sums[-1]
+
+    shares, found = [left(0)], [(1 - load) / (1 - load * left(0))]
+    while sum(found) < 0.95:
+        shares.append(left(len(found)) - left(len(found) - 1))
+        found.append(load / (1 - load * shares[0]) * sum(map(operator.mul, shares[1:], reversed(found))))
+    return len(found) * step
 
 
 class Quantiles(ToolCase):
@@ -51,14 +95,57 @@ class Quantiles(ToolCase):
                                            sum(time <= value + 1 for time in times) / len(times), delta=0.003)
 
     def test_lognormal_times(self):
-        """The mean of the table is that of 10,000 times, and so are the medians."""
+        """The mean of the table is that of 10,000 times, the mean square within 2 %, and so are the medians."""
         for deviation, seed, count in itertools.product((1, 1.5), range(3), (10, 32)):
-            chance = random.Random(seed)
-            times = sorted(max(1, 100 * math.exp(deviation * chance.gauss(0, 1))) for _ in range(10_000))
+            times = lognormal(deviation, seed)
             pairs = quantiles.table_of(quantiles.of_file(times), count)
             self.assertLessEqual(len(pairs), count)
             self.assertLess(abs(quantiles.mean_of(pairs) / statistics.fmean(times) - 1), 0.01)
+            self.assertLess(abs(mean_and_square(drawn(pairs))[1] / mean_and_square(times)[1] - 1), 0.02)
             self.assertLess(abs(statistics.median(drawn(pairs)) / statistics.median(times) - 1), 1 / count)
+
+    def test_waits_by_times(self):
+        """They are those by the times themselves within 5 %: the mean, and what 95 of 100 wait at most."""
+        for deviation, seed in itertools.product((1, 1.5), (None, 1, 2)):
+            times = lognormal(deviation, seed)
+            found, rate = sorted(drawn(quantiles.table_of(quantiles.of_file(times), 32))), 0.8 / statistics.fmean(times)
+            with self.subTest(deviation=deviation, seed=seed):
+                wait = mean_wait(*mean_and_square(times), rate)
+                self.assertLess(abs(mean_wait(*mean_and_square(found), rate) / wait - 1), 0.02)
+                self.assertLess(abs(wait_95(found, rate) / wait_95(times, rate) - 1), 0.05)
+
+    def test_waits_by_a_law(self):
+        """The mean wait is that of the law within 5 %, by two of its quantiles. By 10,000 times that are spread evenly
+        over it, it is so only if they have nearly the mean square of the law: with a deviation of 1, and not of 1.5."""
+        for deviation, is_told in ((1, True), (1.5, False)):
+            mean, square = 100 * math.exp(deviation ** 2 / 2), 100 ** 2 * math.exp(2 * deviation ** 2)
+            wait = mean_wait(mean, square, 0.8 / mean)
+            given = {"50": 100.0, "90": 100 * math.exp(deviation * statistics.NormalDist().inv_cdf(0.9))}
+            law = quantiles.of_law(quantiles.law_of(given, None, quantiles.MOST), given)
+            off = [mean_wait(*mean_and_square(drawn(quantiles.table_of(times, 32))), 0.8 / mean) / wait - 1
+                   for times in (law, quantiles.of_file(lognormal(deviation)))]
+            with self.subTest(deviation=deviation):
+                self.assertEqual([abs(it) < 0.05 for it in off], [True, is_told], off)
+                self.assertAlmostEqual(mean_wait(*mean_and_square(lognormal(deviation)), 0.8 / mean) / wait - 1, off[1],
+                                       delta=0.02)
+
+    def test_the_deviation(self):
+        """The numbers that are printed are those of the times and of what is drawn."""
+        times = [round(time, 6) for time in lognormal(1.5, 3)]
+        pairs, lines = self.made("-", times=times)
+        before, after = statistics.pstdev(times), statistics.pstdev(drawn(pairs, 2 ** 16))
+        self.assertEqual(lines[4], f"# Standard deviation of the times: {before:,.2f} ms")
+        self.assertEqual([line.split(": ")[0] for line in lines[5:]], ["# Standard deviation of the table", "# Error"])
+        found, off = (float(line.split(": ")[1].split()[0].replace(",", "")) for line in lines[5:])
+        self.assertAlmostEqual(found / after, 1, places=3)
+        self.assertAlmostEqual(off, 100 * (after / before - 1), delta=0.1)
+
+    def test_the_variance_of_a_table(self):
+        """Of 1 and 11 the times 1 to 10 are drawn, as often; of 7 and 7 the one time."""
+        for pairs in ([[0, 1], [1000, 11]], [[0, 7], [1000, 7]], [[0, 10], [500, 10], [1000, 21]],
+                      [[0, 1], [500, 120], [990, 900], [1000, 5000]]):
+            self.assertAlmostEqual(quantiles.variance_of(pairs), statistics.pvariance(drawn(pairs)),
+                                   delta=0.001 * quantiles.variance_of(pairs))
 
     def test_laws(self):
         """The quantiles that are given stand in the table, and the mean is that of the law or the one that is given."""
@@ -96,12 +183,29 @@ class Quantiles(ToolCase):
         self.assertEqual(self.made(path, "--column", "ms")[1][:2],
                          [f"# Times: 2 of {path}", "# Mean of the times: 10.25 ms"])
 
+    def test_a_tail_that_is_drawn(self):
+        """Each time of the tail moves by a share of its distance from the last one that stays, not past the next."""
+        pairs = [[0, 1], [900, 10], [950, 100], [960, 101], [999, 200]]
+        times = quantiles.Times([], [], 0, (960,), 220)
+        for share, second, last in ((0.2, 82, 180), (0, 100, 200), (-0.1, 101, 210), (-0.25, 101, 220)):
+            self.assertEqual(quantiles.drawn_in(pairs, share, times),
+                             [*pairs[:2], [950, second], [960, 101], [999, last]])
+
     def test_what_no_table_has(self):
         """Of 1,009 times nine are the greatest that there is: a piece of a permille before them is too much."""
         _, lines = self.made("-", times=[1] * 999 + [10] + [86_400_000] * 9)
         self.assertRegex(lines[3], r"^# Error: -\d\.\d\d %$")
         self.assertEqual(lines[4], "# No nearer: 32 pairs of whole permilles, with times up to 86,400,000 ms, do not "
                                    "have this mean.")
+
+    def test_a_deviation_that_no_table_has(self):
+        """Of 10,000 times one is 10,000 ms, and the others 1 ms. The last piece of a table is ten of 10,000 times. With
+        the right mean, and spread evenly, they have hardly more than a third of the deviation."""
+        _, lines = self.made("-", times=[1] * 9_999 + [10_000])
+        self.assertEqual(lines[4], f"# Standard deviation of the times: {9_999 * math.sqrt(1e-4 * (1 - 1e-4)):,.2f} ms")
+        self.assertRegex(lines[6], r"^# Error: -6\d\.\d\d %$")
+        self.assertEqual(lines[7:], ["# No nearer: 32 pairs of whole permilles, with times up to 86,400,000 ms, do not "
+                                     "have this deviation, but with a tail that is far off."])
 
     def test_faults(self):
         path, empty = self.write("t.csv", "ms\n12\n0.5\n"), self.write("empty", "\n\n")
@@ -138,7 +242,7 @@ class Quantiles(ToolCase):
             out = self.run_tool("quantiles", *words, stdin="\n".join(map(str, times)).encode())[1]
             path = self.write("s.toml", 'version = 3\nhorizon = 9\n[[queue]]\nname = "q"\n[[actor]]\nname = "c"\n'
                                         f'kind = "consumer"\nqueue = "q"\n{out}idle_ms = 5\n')
-            self.assertEqual(printed("check", "--preview", path), "ok queues=1 actors=1 tasks=0 least=10\n")
+            self.assertEqual(printed("check", "--v3", path), "ok queues=1 actors=1 tasks=0 least=10\n")
 
     def test_example_of_the_documents(self):
         text = text_at(TOOLS, "README.md")

@@ -1,5 +1,6 @@
 """Tests the reference in tests/reference: against stored cases, against the program over random scenarios, and for
 version 3 against docs/FORMATS.md and docs/MODEL.md, by logs, faults and times that were written by hand."""
+import csv
 import os
 import pathlib
 import random
@@ -8,23 +9,21 @@ import subprocess
 import sys
 import unittest
 
-from tool import PROGRAM, ROOT, needs_program
+from tool import PROGRAM, ROOT, needs_program, text_at
 
-REFERENCE = os.path.join(ROOT, "tests", "reference")
-sys.path.insert(0, REFERENCE)
-from agreeing import Outcome, answered, first_difference, referred, split_words  # noqa: E402 (of the folder above)
-from faults import Fault  # noqa: E402
-from making import PROFILES, scenario_text  # noqa: E402
-from reader import read  # noqa: E402
-from sites import TooLong  # noqa: E402
-from stored_cases import stored  # noqa: E402 (tool.py puts tools/ on the path)
-from words import MASK, Draws, place_by_weight, time_at  # noqa: E402
+from agreeing import Outcome, answered, first_difference, referred, split_words
+from faults import Fault
+from making import PROFILES, scenario_text
+from reader import read
+from sites import TooLong
+from stored_cases import stored
+from words import MASK, Draws, place_by_weight, time_at
 
 SEEDS, MOST_HANDLINGS = range(1, 21), 1_000
 OLD_PROFILES = [name for name, (version, _) in PROFILES.items() if version < 3]
 NEW_PROFILES = [name for name, (version, _) in PROFILES.items() if version == 3]
-STORED_3 = [case for case in stored() if case.is_preview]
-OLD_STORED = [case for case in stored() if not case.is_preview]
+STORED_3 = [case for case in stored() if case.is_version_3]
+OLD_STORED = [case for case in stored() if not case.is_version_3]
 VERSION_2 = re.compile(rb"^version = 2$", re.MULTILINE)
 HEAD = 'version = 3\nhorizon = 9\n[[queue]]\nname = "q"\n[[queue]]\nname = "w-1"\n[[queue]]\nname = "f.fifo"\n'
 CONSUMER = HEAD + '[[actor]]\nname = "c"\nkind = "consumer"\nqueue = "q"\n'
@@ -36,85 +35,33 @@ SENT_FIFO = SENT.replace('queue = "q"\ncount', 'queue = "f.fifo"\ncount')
 ANOTHER = SERVED[len(HEAD):]
 SCALER = HEAD + '[[actor]]\nname = "x"\nkind = "scaler"\nqueue = "q"\n'
 SCALED = SCALER + "every_s = 60\nvisible_per_copy = 1\ncopies_max = 2\n"
+STEPPED = SCALED.replace("visible_per_copy = 1\n", "")
 BOUNDS = re.compile(r"(gap|service)_min_ms = (\d+)\n\1_max_ms = (\d+)\n")
 BETWEEN = re.compile(r"(fails_between_ms = .*\nfails_permille = )(\d+)\n")
+PER_COPY = re.compile("visible_per_copy = ([0-9]+)")
 # Keys that change nothing: what they name does not occur.
 NEUTRAL = {"producer": "stop_ms = 2592000000\n",
            "consumer": 'stop_ms = 2592000000\nfails_on = "in no body"\nfails_from_ms = 7\nfails_to_ms = 7\n'
                        'batch_fails = "each"\nheartbeat_s = 43200\n'}
 PAIRS_33 = [[0, 1], *([it, 1] for it in range(1, 32)), [1000, 1]]
-# Texts with what is added to them, and the first fault of the whole; the stored cases have more of them.
-FAULTS = [
-    (SERVED, "service = 3", "11 UnknownKey at actor[0].service_max_ms"),
+# Scenarios to which the first column of reference/faults.csv refers.
+SCENARIOS = {"served": SERVED, "consumer": CONSUMER, "forwarded": FORWARDED, "producer": PRODUCER, "sent": SENT,
+             "sent fifo": SENT_FIFO, "scaler": SCALER, "scaled": SCALED, "stepped": STEPPED}
+# Texts with what is added to them, and the first fault of the whole; the stored cases have more of them. In the file
+# the lines that are added stand in one, with semicolons between them.
+FAULTS = [(SCENARIOS[row["scenario"]], row["added"].replace("; ", "\n"), row["fault"]) for row in csv.DictReader(
+    text_at(ROOT, "tests", "reference", "faults.csv").splitlines())] + [
     (SERVED.replace("= 3\n", "= 2\n", 1), "service = 3", "11 UnknownKey at actor[0].service"),
-    (CONSUMER, "service = 3", "13 WrongType at actor[0].service"),
-    (CONSUMER, "service = []", "14 OutOfRange at actor[0].service"),
     (CONSUMER, f"service = {PAIRS_33[1:]}", "14 OutOfRange at actor[0].service[0]"),
-    (CONSUMER, "service = [[0, 1, 2], [1000, 1]]", "14 OutOfRange at actor[0].service[0]"),
-    (CONSUMER, "service = [[0, 1], [1000]]", "14 OutOfRange at actor[0].service[1]"),
-    (CONSUMER, "service = [[0.0, 1], [1000, 1]]", "13 WrongType at actor[0].service[0]"),
-    (CONSUMER, "service = [[0, 1], [1000, true]]", "13 WrongType at actor[0].service[1]"),
-    (CONSUMER, "service = [[0, 2], [1000, 1]]", "14 OutOfRange at actor[0].service[1]"),
-    (CONSUMER, "service = [[0, 1], [1000, 86400000]]", ""),
-    (SERVED, "start_ms = 5\nstop_ms = 5", ""),
-    (SERVED, "stop_ms = 2592000001", "14 OutOfRange at actor[0].stop_ms"),
     (SERVED, f'fails_on = "{"é" * 64}"', ""),
-    (SERVED, "fails_from_ms = 5\nfails_to_ms = 5", ""),
     (SERVED, f"fails_between_ms = {[[1, 2]] * 32}", ""),
     (SERVED, f"fails_between_ms = {[[1]] * 33}", "19 TooMany at actor[0].fails_between_ms"),
-    (SERVED, "fails_between_ms = [[5, 5], [0, 2592000000]]", ""),
-    (SERVED, "fails_between_ms = [[5, 5], [1, 2592000001]]", "14 OutOfRange at actor[0].fails_between_ms[1]"),
-    (SERVED, "fails_between_ms = [[2592000001, 0]]", "14 OutOfRange at actor[0].fails_between_ms[0]"),
-    (SERVED, "fails_between_ms = [[6, 5]]", "14 OutOfRange at actor[0].fails_between_ms[0]"),
-    (SERVED, 'fails_between_ms = [["6", -1]]', "13 WrongType at actor[0].fails_between_ms[0]"),
-    (SERVED, "fails_between_ms = [[1, 2, 3]]", "14 OutOfRange at actor[0].fails_between_ms[0]"),
-    (SERVED, "fails_between_ms = [7]", "13 WrongType at actor[0].fails_between_ms[0]"),
-    (SERVED, "fails_between_ms = []\nfails_from_ms = 1\nfails_to_ms = 2", "11 UnknownKey at actor[0].fails_from_ms"),
-    (SERVED, "fails_between_ms = []\nfails_to_ms = 2", "11 UnknownKey at actor[0].fails_to_ms"),
-    (SERVED, "fails_permille = 5", "11 UnknownKey at actor[0].fails_permille"),
-    (SERVED, "fails_between_ms = [[1, 2]]\nfails_permille = 1000", ""),
-    (SERVED, "fails_between_ms = [[1, 2], [3, 4]]\nfails_permille = [0, 1000]", ""),
-    (SERVED, "fails_between_ms = [[1, 2]]\nfails_permille = []", "14 OutOfRange at actor[0].fails_permille"),
     (SERVED, f"fails_between_ms = {[[1, 2]] * 32}\nfails_permille = {[1.5] * 33}",
      "14 OutOfRange at actor[0].fails_permille"),
-    (SERVED, "fails_between_ms = [[1, 2], [3, 4]]\nfails_permille = [-1, true]",
-     "14 OutOfRange at actor[0].fails_permille[0]"),
-    (SERVED, "fails_between_ms = [[1, 2], [3, 4]]\nfails_permille = [1, true]",
-     "13 WrongType at actor[0].fails_permille[1]"),
-    (SERVED, "fails_between_ms = [[1, 2], [3]]\nfails_permille = []", "14 OutOfRange at actor[0].fails_between_ms[1]"),
-    (SERVED, "fails_from_ms = 1\nfails_to_ms = 2\nfails_permille = [1]", "13 WrongType at actor[0].fails_permille"),
-    (FORWARDED, 'forward = ["w-1"]', ""),
     (FORWARDED, f"forward = {['q', 'w-1'] * 5}", ""),
-    (FORWARDED, "forward = []", "14 OutOfRange at actor[0].forward"),
     (FORWARDED, f"forward = {[1] * 11}", "19 TooMany at actor[0].forward"),
-    (FORWARDED, 'forward = { a = "q" }', "13 WrongType at actor[0].forward"),
-    (FORWARDED, 'forward = ["f.fifo", 1]', "18 KindMismatch at actor[0].forward[0]"),
-    (FORWARDED, 'forward = ["w", "f.fifo"]', "17 UnknownQueue at actor[0].forward[0]"),
-    (FORWARDED, 'forward = ["q", ["q"]]', "13 WrongType at actor[0].forward[1]"),
     (FORWARDED.replace("latency_min_ms = 1\n", ""), 'forward = ["q", 1]', "13 WrongType at actor[0].forward[1]"),
-    (SERVED, 'forward = ["q"]', "12 MissingKey at actor[0].latency_min_ms"),
-    (SERVED, 'batch_service = "all"', "14 OutOfRange at actor[0].batch_service"),
-    (SERVED, "batch_service = true", "13 WrongType at actor[0].batch_service"),
-    (SERVED, "service_each_ms = 5", "11 UnknownKey at actor[0].service_each_ms"),
-    (SERVED, 'batch_service = "each"\nservice_each_ms = 86400000', ""),
-    (SERVED, 'batch_service = "once"\nservice_each_ms = -1\nfail_permille = -1',
-     "14 OutOfRange at actor[0].service_each_ms"),
-    (SERVED, 'batch_service = 1\nheartbeat_s = 5', "11 UnknownKey at actor[0].heartbeat_s"),
-    (SERVED, "fail_service_ms = 0", ""),
-    (SERVED, "fail_service_ms = 43200000", ""),
-    (SERVED, "fail_service_ms = -1", "14 OutOfRange at actor[0].fail_service_ms"),
-    (SERVED, "fail_service_ms = 5\nbatch_service = 1", "13 WrongType at actor[0].batch_service"),
-    (SERVED, 'fail_service_ms = 5\nbatch_service = "each"\nbatch_fails = "each"', ""),
-    (SERVED, 'fail_service_ms = 5\nbatch_service = "once"\nbatch_fails = "whole"', ""),
-    (SERVED, 'fail_service_ms = 5\nbatch_service = "once"\nbatch_fails = 1',
-     "11 UnknownKey at actor[0].fail_service_ms"),
-    (SERVED, 'fail_service_ms = -1\nbatch_service = "once"\nheartbeat_s = 5',
-     "11 UnknownKey at actor[0].fail_service_ms"),
-    (SENT, "fail_service_ms = 5", "11 UnknownKey at actor[0].fail_service_ms"),
-    (SERVED, 'backoff_s = [1]\nbackoff_jitter = "none"', ""),
-    (SERVED, 'backoff_s = [1]\nbackoff_jitter = "half"\nheartbeat_s = 0', "14 OutOfRange at actor[0].backoff_jitter"),
     (SERVED, f"backoff_s = {[0] * 12}", ""),
-    (SERVED, "copies = 1000", ""),
     (SERVED.replace('"c"', f'"{"c" * 78}"'), "copies = 9", ""),
     (SERVED.replace('"c"', f'"{"c" * 78}"'), "copies = 10", "15 BadName at actor[0].copies"),
     (SERVED.replace('"c"', '"w"'), "copies = 1", "16 NameTwice at actor[0].copies"),
@@ -126,36 +73,23 @@ FAULTS = [
         ANOTHER.replace('"c"', f'"d{it}"') + "copies = 1000\n" for it in range(9)), ""),
     (SERVED, "copies = 1000\n" + "".join(
         ANOTHER.replace('"c"', f'"d{it}"') + "copies = 1000\n" for it in range(10)), "19 TooMany at actor[9].copies"),
-    (SERVED, "copies = 1\nbackoff_s = 1\nstop_ms = -1", "14 OutOfRange at actor[0].stop_ms"),
-    (SERVED, "gap = 1\ncopies = 0", "11 UnknownKey at actor[0].gap"),
-    (PRODUCER, "", "12 MissingKey at actor[0].gap_min_ms"),
-    (SENT, "gap = []", "11 UnknownKey at actor[0].gap_max_ms"),
-    (PRODUCER, "gap = [[0, 1], [1000, 0]]", "14 OutOfRange at actor[0].gap[1]"),
-    (SCALER, "", "12 MissingKey at actor[0].every_s"),
-    (SCALED, "start_ms = 2592000000\nreading_s = 59\ncopies_min = 2\nadded_max = 1\ntaken_max = 1000\n"
-             "cooldown_in_s = 86400", ""),
-    (SCALED, "reading_s = 60\ncopies_min = 3", "14 OutOfRange at actor[0].reading_s"),
-    (SCALED, "copies_min = 3\nadded_max = 0", "14 OutOfRange at actor[0].copies_max"),
-    (SCALED, "copies_min = 1001", "14 OutOfRange at actor[0].copies_min"),
-    (SCALED, "added_max = 0\ntaken_max = 0", "14 OutOfRange at actor[0].added_max"),
-    (SCALED, "taken_max = 1001\ncooldown_out_s = -1", "14 OutOfRange at actor[0].taken_max"),
-    (SCALED, "cooldown_out_s = 86401\ncooldown_in_s = true", "14 OutOfRange at actor[0].cooldown_out_s"),
-    (SCALED, 'cooldown_in_s = "5"', "13 WrongType at actor[0].cooldown_in_s"),
-    (SCALED, "copies = 1\ntimeout_s = 5", "11 UnknownKey at actor[0].copies"),
     (SCALED.replace("every_s = 60", "every_s = 0"), "visible_per_copy = 0", "10 NotToml"),
     (SCALED.replace("every_s = 60", "every_s = 86401"), "reading_s = 86401", "14 OutOfRange at actor[0].every_s"),
     (SCALED.replace("= 1\n", "= 1000001\n", 1), "copies_min = -1", "14 OutOfRange at actor[0].visible_per_copy"),
     (SCALED.replace("= 3\n", "= 2\n", 1), "copies = 0", "14 OutOfRange at actor[0].kind"),
+    (STEPPED, f"steps = {[[it, 1000 - it] for it in range(32)]}", ""),
+    (STEPPED, f"steps = {[1] * 33}", "19 TooMany at actor[0].steps"),
     (SCALED, ANOTHER + 'scaler = "x"\nscaler_start_ms = 86400000\ncopies = 1000', ""),
     (SERVED, 'scaler = "x"\n' + SCALED[len(HEAD):], ""),
     (SERVED, 'scaler = "x"\n' + SCALED[len(HEAD):].replace('"q"', '"w-1"'), "17 UnknownQueue at actor[0].scaler"),
-    (SERVED, 'scaler = "c"', "17 UnknownQueue at actor[0].scaler"),
-    (SERVED, 'scaler = ["x"]\nstop_ms = 9\nfails_on = ""', "13 WrongType at actor[0].scaler"),
-    (SERVED, "scaler_start_ms = 0", "11 UnknownKey at actor[0].scaler_start_ms"),
     (SERVED, 'scaler = "x"\nscaler_start_ms = -1\n' + SCALED[len(HEAD):], "14 OutOfRange at actor[0].scaler_start_ms"),
-    (SENT, 'scaler = "x"', "11 UnknownKey at actor[0].scaler"),
+    (SENT.replace("= 3\n", "= 2\n", 1), "copies = 1", "11 UnknownKey at actor[0].copies"),
+    (SENT.replace('"p"', '"w"'), "copies = 1", "16 NameTwice at actor[0].copies"),
+    (SENT.replace('"p"', f'"{"p" * 78}"'), "copies = 10", "15 BadName at actor[0].copies"),
+    (SENT, "copies = 2\n" + ANOTHER.replace('"c"', '"p-2"'), "16 NameTwice at actor[1].name"),
+    (SENT, "copies = 1000\n" + "".join(
+        ANOTHER.replace('"c"', f'"d{it}"') + "copies = 1000\n" for it in range(10)), "19 TooMany at actor[9].copies"),
     (SENT_FIFO, f"key_groups = {[['g', 1]] * 100}", ""),
-    (SENT_FIFO, 'key_groups = [["g", 1]]\nids = 1\nstop_ms = 1', "13 WrongType at actor[0].ids"),
 ]
 
 
@@ -179,6 +113,11 @@ def with_neutral_keys(text):
     for kind, keys in NEUTRAL.items():
         text = text.replace(f'kind = "{kind}"\n', f'kind = "{kind}"\n{keys}')
     return text.replace("version = 2\n", "version = 3\n")
+
+
+def steps_for(found):
+    """Steps in place of so many visible messages for each copy, for up to 31 copies."""
+    return f"steps = {[[copies * int(found[1]), copies] for copies in range(32)]}"
 
 
 def random_texts(profile, without=()):
@@ -238,7 +177,7 @@ class VersionThree(unittest.TestCase):
             for seed, source, wanted in random_texts(profile):
                 with self.subTest(profile=profile, seed=seed):
                     for words in ([], split_words(source)):
-                        found = answered(PROGRAM, source, "--preview", *words)
+                        found = answered(PROGRAM, source, "--v3", *words)
                         self.assertEqual(first_difference(wanted, found), "")
 
     @needs_program
@@ -255,8 +194,9 @@ class VersionThree(unittest.TestCase):
         wanted = Outcome(1, b"", b"refused 14 OutOfRange at version\n")
         self.assertEqual(referred(text), wanted)
         self.assertEqual(referred(text.replace(b"version = 3", b"version = 4"), 3), wanted)
-        program = os.path.join(REFERENCE, "sqs_reference")
-        for words, line in ([], wanted.error), (["--preview"], b"ok queues=1 actors=2 tasks=0 least=8001\n"):
+        program = os.path.join(ROOT, "tests", "reference", "sqs_reference")
+        read = b"ok queues=1 actors=2 tasks=0 least=8001\n"
+        for words, line in ([], wanted.error), (["--v3"], read), (["--preview"], read):
             ran = subprocess.run([sys.executable, program, "check", *words, case], capture_output=True)
             self.assertEqual(ran.stdout + ran.stderr, line)
 
@@ -303,6 +243,28 @@ class VersionThree(unittest.TestCase):
         written = referred((head + "".join(tables[name] for name in ("c-1", "d", "c-2", "c-3"))).encode(), 3)
         self.assertEqual(copied, written)
         self.assertEqual(copied.status, 0)
+
+    def test_copies_of_a_producer_are_tables_at_the_end(self):
+        keys = PRODUCER[PRODUCER.index('kind = "producer"'):].replace("count = 1", "count = 9")
+        keys = keys.replace('"q"', '"f.fifo"') + "gap_min_ms = 1\ngap_max_ms = 99\ngroups = 3\n"
+        head = HEAD.replace("horizon = 9", "horizon = 999")
+        tables = {name: f'[[actor]]\nname = "{name}"\n{keys}' for name in ("p", "p-1", "p-2", "p-3")}
+        consumer = ANOTHER.replace('"q"', '"f.fifo"')
+        copied = referred(f"{head}{tables['p']}copies = 3\n{consumer}".encode(), 3)
+        written = referred(f"{head}{tables['p-1']}{consumer}{tables['p-2']}{tables['p-3']}".encode(), 3)
+        self.assertEqual(copied, written)
+        self.assertEqual(copied.output.count(b"send,new"), 27)
+
+    def test_steps_that_say_what_one_number_says(self):
+        stepped = 0
+        for seed, source, wanted in random_texts("version-3", ["steps"]):
+            text = source.decode("utf-8")
+            if "visible_per_copy" in text and max(map(int, re.findall("copies_max = ([0-9]+)", text))) < 32:
+                with self.subTest(seed=seed):
+                    found = referred(PER_COPY.sub(steps_for, text).encode("utf-8"), 3)
+                    self.assertEqual(first_difference(wanted, found), "")
+                stepped += 1
+        self.assertGreater(stepped, 5)
 
     def test_keys_that_name_nothing_change_nothing(self):
         for seed, source, wanted in random_texts("version-2"):
@@ -360,7 +322,3 @@ class VersionThree(unittest.TestCase):
     def test_random_scenarios_run(self):
         texts = [outcome.status for profile in ("version-3", "faulty-3") for _, _, outcome in random_texts(profile)]
         self.assertGreater(texts.count(0), 10)
-
-
-if __name__ == "__main__":
-    unittest.main()

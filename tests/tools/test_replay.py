@@ -140,7 +140,3 @@ class PlacesOfMessages(ToolCase):
         places = Noted()
         take_finals(log, {"q": places})
         self.assertEqual(places.notes, [("m-0-0", DELAYED)])
-
-
-if __name__ == "__main__":
-    unittest.main()

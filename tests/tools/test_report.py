@@ -209,23 +209,10 @@ class Report(ToolCase):
         self.assertFalse(os.path.exists(self.path("r.html")))
 
     def test_faults(self):
-        for words, line in (
-                ((self.scenario,), "the following arguments are required: --output (--help tells the usage)"),
-                (("none", "--output", "r.html"), "cannot read none: No such file or directory"),
-                ((self.scenario, "--output", "s.toml/r.html"), "cannot write s.toml/r.html: Not a directory"),
-                ((self.scenario, "--output", "r.html", "--queue", "x"), "the scenario has no queue x"),
-                ((self.scenario, "--output", "r.html", "--require", "x.sends=1"), "x.sends=1: there is no queue x"),
-                ((self.scenario, "--output", "r.html", "--require", "sends"),
-                 "sends is no requirement, as orders.age_p95<60s"),
-                ((self.scenario, "--output", "r.html", "--require", "q.sends=1 in 95%"),
-                 "q.sends=1 in 95%: a report has one run, and no share of runs (tools/sweep has)"),
-                ((self.scenario, "--output", "r.html", "--program", "/nowhere"), "there is no program /nowhere")):
-            with self.subTest(words=words):
-                self.assert_fault(self.report(*words), f"report: {line}")
+        self.assert_stored_faults("report", SQS_REHEARSE=self.program)
         for data in (b"\x00\xff", bytes(range(256)), b"version = ", b"a = " + b"[" * 9_000):
             self.write("bad.toml", data)
-            status, out, err = self.report("bad.toml", "--output", "r.html", "--queue", "q")
-            self.assertEqual((status, out, len(err.splitlines())), (2, "", 1), err)
+            self.refusal(self.report("bad.toml", "--output", "r.html", "--queue", "q"))
 
     def test_without_its_library(self):
         """A Python that finds no plotly tells which package has it."""
@@ -256,8 +243,8 @@ class Report(ToolCase):
         words = scenario, "--output", "h.html"
         self.assertEqual(self.run_tool("report", *words, SQS_REHEARSE=PROGRAM),
                          (1, "", "report: refused 14 OutOfRange at version; tools/explain tells more\n"))
-        self.assertEqual(self.run_tool("report", *words, "--preview", SQS_REHEARSE=PROGRAM), (0, "", ""))
-        self.assertIn("h.html --preview", "|".join(Page(text_at(self.path("h.html"))).texts))
+        self.assertEqual(self.run_tool("report", *words, "--v3", SQS_REHEARSE=PROGRAM), (0, "", ""))
+        self.assertIn("h.html --v3", "|".join(Page(text_at(self.path("h.html"))).texts))
 
     @needs_program
     def test_a_dead_letter_queue_without_rows(self):
@@ -267,7 +254,3 @@ class Report(ToolCase):
         page = Page(text_at(self.path("d.html")))
         self.assertEqual(page.links, ["#section-1"])
         self.assertIn("|d|0|0|0|0|0|-|-|0|0 dead letters|", "|".join(page.texts))
-
-
-if __name__ == "__main__":
-    unittest.main()

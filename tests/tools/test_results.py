@@ -324,7 +324,3 @@ class Collected(unittest.TestCase):
     def test_an_empty_folder(self) -> None:
         self.files = {}
         self.assertEqual(self.collected(), (None, [], [], [], []))
-
-
-if __name__ == "__main__":
-    unittest.main()

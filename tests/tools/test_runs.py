@@ -163,12 +163,8 @@ class Cut(ToolCase):
                     self.assertEqual({key: found[key] for key in queue.values()}, queue.values())
 
     def test_faults(self) -> None:
-        log = self.write("run.txt", LOG)
-        for words, line in ((("--from", "soon"), "--from soon is no time, as 90s, 1.5h, 1h30m or 1:30:00"),
-                            (("--to", "0.1"), "--to 0.1 is no time, as 90s, 1.5h, 1h30m or 1:30:00"),
-                            (("--from", "1:00:00"), f"--from 3600000 ms is after the last row of {log}, at 60200 ms"),
-                            (("--from", "2s", "--to", "1s"), "--from 2s is after --to 1s")):
-            self.assert_fault(self.run_tool("summary", log, *words), f"summary: {line}")
+        self.write("run.txt", LOG)
+        self.assert_stored_faults("runs, summary")
 
 
 @needs_program
@@ -179,8 +175,8 @@ class Sweeps(ToolCase):
 
     def test_columns_of_a_sweep(self) -> None:
         """They are those of the log that the program writes for a run that ends then."""
-        status, out, _ = self.run_tool("sweep", self.scenario, "--vary", "seed=1..3", "--from", "10s", "--to", "40s")
-        self.assertEqual(status, 0)
+        words = "--vary", "seed=1..3", "--from", "10s", "--to", "40s"
+        out, _ = self.ends(0, self.run_tool("sweep", self.scenario, *words))
         for seed, row in zip("123", csv.DictReader(io.StringIO(out))):
             text = OVERLOADED.replace("60000", f"40000\nseed = {seed}")
             counts = counts_of(printed("run", "--quiet", text=text), 10_000)["q"]
@@ -206,18 +202,12 @@ class Sweeps(ToolCase):
         self.assertEqual(os.listdir(self.path("results"))[0].count("-of-2-"), 1)
 
     def test_faults(self) -> None:
-        for words, line in ((("--from", "2m"), "--from 120000 ms is after the horizon of 60000 ms"),
-                            (("--from", "x"), "--from x is no time, as 90s, 1.5h, 1h30m or 1:30:00"),
-                            (("--from", "1m30s"), "--from 90000 ms is after the horizon of 60000 ms"),
-                            (("--from", "1s", "--print-scenario"), "--from and --to go with runs, and nothing is run")):
-            ran = self.run_tool("sweep", self.scenario, "--vary", "seed=1", *words)
-            self.assert_fault(ran, f"sweep: {line}")
+        self.assert_stored_faults("runs, sweep")
 
     def test_ages_of_messages_that_are_left(self) -> None:
         """Twice as many wait as were deleted: 90 s may hold or not, and 10 s fails for what is known already."""
-        status, _, err = self.run_tool("sweep", self.scenario, "--require", "q.age_p95<90s", "--require",
-                                       "q.age_p95<10s", "--require", "q.age_p95>10s", "--columns", "deletes,visible")
-        self.assertEqual(status, 1)
+        words = "--require", "q.age_p95<90s", "--require", "q.age_p95<10s", "--require", "q.age_p95>10s"
+        _, err = self.ends(1, self.run_tool("sweep", self.scenario, *words, "--columns", "deletes,visible"))
         lines = err.splitlines()[-3:]
         self.assertRegex(lines[0], r"q.age_p95<90s is undecided with the scenario as it is: it is \d+ ms, \d\d.\d s, "
                                    r"of those deleted, and \d+ ms or more with the \d+ that are left \(\d+\.\d %\)$")
@@ -228,8 +218,7 @@ class Sweeps(ToolCase):
         """Of a share there is the report alone, by which 90 s is open as well."""
         words = "--vary", "seed=1", "--share", "1/1", "--results", "results"
         self.assertEqual(self.run_tool("sweep", self.scenario, *words)[0], 0)
-        status, _, err = self.run_tool("sweep", "--collect", "results", "--require", "q.age_p95<90s")
-        self.assertEqual(status, 1)
+        _, err = self.ends(1, self.run_tool("sweep", "--collect", "results", "--require", "q.age_p95<90s"))
         self.assertIn("q.age_p95<90s is undecided with seed=1: ", err)
 
     def test_a_report_of_messages_that_are_left(self) -> None:
@@ -248,8 +237,7 @@ class Sweeps(ToolCase):
                                      (("--to", "20s"), second, "ended at 20.0 s")):
             requires = [word for column in ("sends", "deletes", "age_max", "depth_max", "visible")
                         for word in ("--require", f"q.{column}!={numbers[column]}")]
-            status, _, err = self.run_tool("report", self.scenario, *words, *requires, "--output", "o.html")
-            self.assertEqual(status, 1)
+            _, err = self.ends(1, self.run_tool("report", self.scenario, *words, *requires, "--output", "o.html"))
             self.assertEqual(len(re.findall(r"^report: q\.\w+!=\d+ fails: it is ", err, re.M)), 4, err)
             self.assertIn(f", {told}.</p>", text_at(self.path("o.html")))
         self.assert_fault(self.run_tool("report", self.scenario, "--from", "2m", "--output", "o.html"),
@@ -309,7 +297,3 @@ class Left(unittest.TestCase):
             word = self.word(f"q.{column}<{bound}", ages, len(left))
             if word != "is undecided":
                 self.assertEqual(word == "holds", true)
-
-
-if __name__ == "__main__":
-    unittest.main()

@@ -89,7 +89,7 @@ def ours(seed: int, cooldown_in: int) -> list[float]:
                        producer("s", "q", SALE, (1, 99), start_ms=SALE_AT), policy,
                        consumer("w", "q", SERVICE, idle_ms=IDLE, copies=COPIES, scaler="x", scaler_start_ms=START),
                        version=3, seed=seed)
-    ran = subprocess.run([str(PROGRAM), "run", "--preview"], input=text.encode(), check=True, capture_output=True)
+    ran = subprocess.run([str(PROGRAM), "run", "--v3"], input=text.encode(), check=True, capture_output=True)
     lines = ran.stdout.decode().split("\n")
     head, row = (line.split(",") for line in lines if line.startswith(("report,queue", "report,q,")))
     deletes, ages, most = (int(row[head.index(column)]) for column in COLUMNS)
@@ -109,7 +109,3 @@ class Scaling(unittest.TestCase):
                     self.assertLess(abs(statistics.mean(numbers) - statistics.mean(own_numbers)), 4 * error + 1)
             ages.append(statistics.mean(mean for mean, *_ in found + own))
         self.assertGreater(ages[0], 1.1 * ages[1])
-
-
-if __name__ == "__main__":
-    unittest.main()

@@ -7,27 +7,7 @@ import tool  # which also puts the tools on the path
 from rehearse_tools.console import Fault, read_text, toml_of
 from rehearse_tools.scenarios import Setting, parsed, varied, written
 
-TEXT = r'''# A scenario.
-version = 1 # one
-"horizon"=60000
-queue = [{name = 'orders', visibility_s = 5}, {"visibility_s" = 7, name = "pay\u002Efifo"}]
-
-[[actor]]
-name = "worker"
-kind = "consumer"
-queue = "orders"
-calls = """
-at,call,body
-0,send,"[[queue]] \""" name = x"
-"""
-list = [ "]", # ]
-  { a = "}", b = [1.5, inf, 1979-05-27T07:32:00Z] } ]
-[[actor]]
-name = "worker-9"
-batch = 2
-[[task]]
-name = """back"""
-queue = "orders"'''
+TEXT = tool.text_at(tool.HERE, "scenario.toml")
 
 
 def changed(*texts):
@@ -97,7 +77,3 @@ class Varied(unittest.TestCase):
             with self.assertRaisesRegex(Fault, "^file is no TOML: ") as caught:
                 parsed(text, "file")
             self.assertNotIn("\n", str(caught.exception))
-
-
-if __name__ == "__main__":
-    unittest.main()

@@ -8,10 +8,10 @@ import unittest
 from code_keys import code_keys, constant, listed_keys
 from tool import ROOT, text_at
 from rehearse_tools.console import Fault, library, toml_of
-from rehearse_tools.keys import (CONSUMER, FIFO, HEAD, ITEMS, NUMBER, NUMBER_OR_NUMBERS, NUMBERS, PREVIEW, PRODUCER,
-                                 QUANTILES, QUEUE, REQUIRED, SCALER, SCRIPT, STANDARD, STRETCHES, TABLES, TASK, TEXT,
-                                 TEXT_OR_TEXTS, TOP, TRUTH, VERSIONS, WEIGHTS, consumer_keys, keys_of, kinds_of,
-                                 latency)
+from rehearse_tools.keys import (CONSUMER, FIFO, HEAD, ITEMS, NUMBER, NUMBER_OR_NUMBERS, NUMBERS, PRODUCER,
+                                 QUANTILES, QUEUE, REQUIRED, SCALER, SCRIPT, STANDARD, STEPS, STRETCHES, TABLES, TASK,
+                                 TEXT, TEXT_OR_TEXTS, TOP, TRUTH, VERSION_3, VERSIONS, WEIGHTS, consumer_keys, keys_of,
+                                 kinds_of, latency)
 from stored_cases import REFUSED, RUNNING, stored
 
 try:
@@ -22,7 +22,8 @@ except Fault:
 UNSAID = re.compile(r"refused (?:10 NotToml|(?:15|19) .*\.copies|16 .*|17 .*|18 .*|20 .*|12 MissingKey at .*\.script|"
                     r"11 UnknownKey at .*\.fail_service_ms|"
                     r"14 OutOfRange at (?:version|.*\.(?:gap_max_ms|service_max_ms|latency_max_ms|sampled|body|stop_ms|"
-                    r"fails_on|fails_to_ms|fails_permille|reading_s|copies_max|(?:gap|service|fails_between_ms)\[[0-9]+\])))\n")
+                    r"fails_on|fails_to_ms|fails_permille|reading_s|copies_max|(?:gap|service|fails_between_ms|steps)\[[0-9]+\])))"
+                    r"\n")
 with open(os.path.join(ROOT, "docs", "scenario.schema.json"), encoding="utf-8") as schema_file:
     SCHEMA = json.load(schema_file)
 # The tables of keys in docs/FORMATS.md, by the first cell of their heads.
@@ -39,14 +40,14 @@ LISTS = {"top.rt": TOP, "queues.rt": QUEUE + LATENCY, "section.rt": HEAD, "scrip
          "producers.rt": PRODUCER[len(HEAD):], "consumers.rt": CONSUMER[len(HEAD):],
          "scalers.rt": SCALER[len(HEAD):], "tasks.rt": TASK}
 # What a file leaves to others of its lists.
-LISTED = {"consumers.rt": ["outages.rt"]}
+LISTED = {"consumers.rt": ["outages.rt"], "scalers.rt": ["targets.rt"]}
 # These are read only where they are there, so that they are required then.
 WHERE_THERE = {"calls", "script", "dead_letter", "forward", "fails_between_ms", "fails_from_ms", "key_groups",
-               "scaler"}
+               "scaler", "steps"}
 # The greatest values that other keys of their tables give, which the code has not as numbers.
 GREATEST = {"sampled": "hosts", "reading_s": "every_s - 1"}
 # A key that is read apart from the others of its table, by another function: behind what its actor does.
-APART = {("consumers.rt", "consumer"): ("actors.rt", "copies")}
+APART = dict.fromkeys([("consumers.rt", "consumer"), ("producers.rt", "producer")], ("actors.rt", "copies"))
 
 
 def read(text):
@@ -113,7 +114,7 @@ class Documents(unittest.TestCase):
             return f"{key.low}..{key.high} numbers, each {low}..{high:,}"
         if key.kind == QUANTILES:
             return "quantiles"
-        if key.kind in (WEIGHTS, STRETCHES):
+        if key.kind in (WEIGHTS, STRETCHES, STEPS):
             return f"{key.low}..{key.high} pairs"
         if key.kind == NUMBER_OR_NUMBERS:
             return f"{key.low}..{key.high:,}, or a list with one for each pair of {key.beside[-1]}"
@@ -170,7 +171,7 @@ class Documents(unittest.TestCase):
 
     def test_code_reads_the_same_versions(self):
         self.assertEqual((constant("draft.rt", "RELEASED"), constant("draft.rt", "PREVIEW")), VERSIONS[-2:])
-        self.assertEqual(VERSIONS[-1], PREVIEW)
+        self.assertEqual(VERSIONS[-1], VERSION_3)
 
     def test_schema_has_the_same_keys(self):
         tables = {"queue": QUEUE, "script": SCRIPT, "producer": PRODUCER, "consumer": CONSUMER, "scaler": SCALER,
@@ -199,14 +200,10 @@ class Documents(unittest.TestCase):
                 one, several = given.get("anyOf", (given, given))
                 if key.kind in (NUMBER, NUMBER_OR_NUMBERS):
                     self.assertEqual((one["minimum"], one["maximum"]), (key.low, key.high))
-                if key.kind in (NUMBERS, QUANTILES, WEIGHTS, STRETCHES, TEXT_OR_TEXTS):
+                if key.kind in (NUMBERS, QUANTILES, WEIGHTS, STRETCHES, STEPS, TEXT_OR_TEXTS):
                     of = SCHEMA["definitions"]["quantiles"] if key.kind == QUANTILES else several
                     self.assertEqual((of["minItems"], of["maxItems"]), (key.low, key.high))
                 if key.name in ITEMS:
                     self.assertEqual((several["items"]["minimum"], several["items"]["maximum"]), ITEMS[key.name])
                 self.assertEqual(given.get("default", REQUIRED), REQUIRED if key.default is None else key.default)
                 self.assertTrue(given["description"])
-
-
-if __name__ == "__main__":
-    unittest.main()

@@ -45,8 +45,7 @@ class Sweeps(ToolCase):
     def hints(self, text: str, *words: str) -> list[str]:
         """The lines of a sweep on standard error that advise something."""
         path = self.write("s.toml", text)
-        status, _, err = self.run_tool("sweep", path, "--vary", "seed=1..6", *words)
-        self.assertEqual(status, 0, err)
+        _, err = self.ends(0, self.run_tool("sweep", path, "--vary", "seed=1..6", *words))
         return [line for line in err.splitlines() if "--from" in line]
 
     def test_a_queue_that_fills(self) -> None:
@@ -82,15 +81,6 @@ class Sweeps(ToolCase):
     def test_no_picture(self) -> None:
         scenario = self.write("s.toml", LEFT_ALONE)
         words = "--vary", "seed=1..4", "--spread", "seed", "--settling", "x.png"
-        status, _, err = self.run_tool("sweep", scenario, *words)
-        self.assertEqual(status, 0)
+        _, err = self.ends(0, self.run_tool("sweep", scenario, *words))
         self.assertIn("sweep: --settling draws nothing: it needs five runs of one variant", err)
-        for words, line in ((("x.gif",), "x.gif ends in none of .svg, .png, .pdf"),
-                            (("x.svg",), "--settling goes with --spread (--help tells the usage)")):
-            spread = ("--spread", "seed") if "gif" in line else ()
-            self.assert_fault(self.run_tool("sweep", scenario, "--vary", "seed=1..9", *spread, "--settling", *words),
-                              f"sweep: {line}")
-
-
-if __name__ == "__main__":
-    unittest.main()
+        self.assert_stored_faults("settling")

@@ -3,7 +3,6 @@ import contextlib
 import csv
 import io
 import re
-import unittest
 from collections.abc import Callable
 from typing import Any
 from unittest import mock
@@ -97,7 +96,3 @@ class Shown(ToolCase):
         """Two scenarios with the same law, one of them with other random numbers: what is shown is chance."""
         said = self.assert_kept(self.differences, "--against", self.other)
         self.assertLessEqual(len(list(filter(None, said))), 10)
-
-
-if __name__ == "__main__":
-    unittest.main()

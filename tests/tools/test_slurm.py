@@ -9,45 +9,14 @@ import tempfile
 import unittest
 
 from test_clusters import CALLS, SCENARIO
-from tool import PROGRAM, ROOT, ToolCase, needs_program, wait_for
+from tool import HERE, PROGRAM, ROOT, ToolCase, needs_program, text_at, wait_for
 
 SCRIPT = os.path.join(ROOT, "examples", "sweeps", "slurm.sh")
 SERVERS = [shutil.which(name, path=os.environ.get("PATH", os.defpath) + ":/usr/sbin")
            for name in ("munged", "slurmctld", "slurmd", "sbatch")]
 needs_slurm = unittest.skipUnless(all(SERVERS) and os.getuid() == 0,
                                   "Slurm is not here, or the user is not root: apt-get install slurm-wlm munge")
-CONFIGURATION = """ClusterName=test
-SlurmctldHost=localhost(127.0.0.1)
-SlurmUser=root
-SlurmdUser=root
-AuthType=auth/munge
-AuthInfo=socket={folder}/munge.socket
-CredType=cred/munge
-SlurmctldPort={ports[0]}
-StateSaveLocation={folder}/state
-SlurmdSpoolDir={folder}/spool-%n
-SlurmctldPidFile={folder}/slurmctld.pid
-SlurmdPidFile={folder}/slurmd-%n.pid
-SlurmctldLogFile={folder}/slurmctld.log
-SlurmdLogFile={folder}/slurmd-%n.log
-ProctrackType=proctrack/linuxproc
-TaskPlugin=task/none
-JobAcctGatherType=jobacct_gather/none
-AccountingStorageType=accounting_storage/none
-SelectType=select/cons_tres
-SelectTypeParameters=CR_CPU
-SchedulerType=sched/builtin
-SwitchType=switch/none
-MpiDefault=none
-ReturnToService=2
-KillWait=60
-MessageTimeout=100
-TCPTimeout=60
-BatchStartTimeout=600
-NodeName=n1 NodeHostname=localhost NodeAddr=127.0.0.1 Port={ports[1]} CPUs={cpus} State=UNKNOWN
-NodeName=n2 NodeHostname=localhost NodeAddr=127.0.0.1 Port={ports[2]} CPUs={cpus} State=UNKNOWN
-PartitionName=all Nodes=n1,n2 Default=YES MaxTime=INFINITE State=UP
-"""
+CONFIGURATION = text_at(HERE, "slurm.conf")
 # A run in the second task waits for as long as it is held, so that the task is sure to be cancelled while it runs.
 HELD_PROGRAM = """#!/bin/sh
 if [ "$SLURM_ARRAY_TASK_ID" = 2 ] && [ "$1" = run ]; then
@@ -151,13 +120,8 @@ class Slurm(ToolCase):
         self.wait_until_ended()
         os.remove(hold)
         self.assertEqual([name[:7] for name in os.listdir(self.path("results"))], ["1-of-2-"])
-        status, _, err = self.collected()
-        self.assertEqual(status, 1)
+        _, err = self.ends(1, self.collected())
         self.assertIn("3 of 6 variants are left: 2,4,6", err)
         self.submit("2", 2)
         self.wait_until_ended()
         self.assertEqual(self.collected(), (0, wanted, ""))
-
-
-if __name__ == "__main__":
-    unittest.main()

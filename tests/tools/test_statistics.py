@@ -8,12 +8,11 @@ import operator
 import os
 import random
 import re
-import subprocess
 import sys
 import unittest
 from collections.abc import Callable, Iterator
 
-from tool import PROGRAM, ROOT, TOOLS, ToolCase, module_at, needs_program, text_at
+from tool import PROGRAM, ROOT, TOOLS, ToolCase, module_at, needs_program, ran, text_at
 
 from rehearse_tools import statistics as figures
 from rehearse_tools.logs import REPORT_HEADER
@@ -418,8 +417,8 @@ class Imports(unittest.TestCase):
         code = ("import sys\nfrom rehearse_tools import statistics as figures\nfigures.verdict(5, 9, 0.5)\n"
                 "print('numpy' in sys.modules, 'scipy' in sys.modules)\nfigures.half_width([1, 2])\n"
                 "print('scipy' in sys.modules)\n")
-        ran = subprocess.run([sys.executable, "-c", code], cwd=TOOLS, capture_output=True, text=True)
-        self.assertEqual(ran.stdout, "False False\nTrue\n", ran.stderr)
+        _, out, err = ran([sys.executable, "-c", code], cwd=TOOLS)
+        self.assertEqual(out, "False False\nTrue\n", err)
 
 
 def poisson(chance: random.Random, rate: float, count: int) -> Iterator[int]:
@@ -457,10 +456,7 @@ class Queues(ToolCase):
                           f'script = "sends.csv"\n{actors}')
         words = ["--log", self.path("log.csv")] if log else ["--log", os.devnull]
         preview = ["--preview"] if scaled else []
-        ran = subprocess.run([PROGRAM, "run", *preview, *words, "--scripts", self.folder, path], capture_output=True,
-                             text=True)
-        self.assertEqual(ran.returncode, 0, ran.stderr)
-        return ran.stdout
+        return self.ends(0, ran([PROGRAM, "run", *preview, *words, "--scripts", self.folder, path]))[0]
 
     def mean_age(self, report: str) -> float:
         """The mean age in milliseconds of all messages, which have all been deleted."""
@@ -561,7 +557,3 @@ class Page(unittest.TestCase):
                 self.assertEqual(words, ["shown", "undecided"], (percent, failed))
             self.assertEqual(figures.word_of(0, int(refuted), share, 0.95), "refuted")
             self.assertNotEqual(figures.word_of(0, int(refuted) - 1, share, 0.95), "refuted")
-
-
-if __name__ == "__main__":
-    unittest.main()

@@ -9,116 +9,17 @@ import random
 import re
 import subprocess
 import sys
-import unittest
 
-from tool import HEADER, HEADERS, PROGRAM, ROOT, TOOLS, ToolCase, module_of, needs_program, open_end, text_at
+from tool import HEADER, PROGRAM, ROOT, TOOLS, ToolCase, log_at, module_of, needs_program, open_end, printed, text_at
 from rehearse_tools import summaries
 
 # A long poll; a batch of two; m-0-0 is handled by two consumers, m-0-1 after its timeout, m-0-2 as it has left for d.
-LOG = HEADER + """0,a,left,receive,wait,,,
-100,a,shop,send,new,m-0-0,,900150983cd24fb0d6963f7d28e17f72
-100,a,left,receive,ok,m-0-0,r-0-0-1,o-0-0
-200,a,shop,send,new,m-0-1,,900150983cd24fb0d6963f7d28e17f72
-200,a,desk,send,new,m-0-2,,900150983cd24fb0d6963f7d28e17f72
-300,a,right,receive,ok,m-0-1,r-0-1-1,o-0-1
-300,a,right,receive,ok,m-0-2,r-0-2-1,o-0-2
-2100,a,a,release,visible,m-0-0,,
-2200,a,third,receive,ok,m-0-0,r-0-0-2,o-0-0
-2300,a,a,release,visible,m-0-1,,
-2300,a,a,release,visible,m-0-2,,
-2500,a,left,delete,kept,m-0-0,r-0-0-1,
-2600,a,third,delete,deleted,m-0-0,r-0-0-2,2500
-3000,a,right,delete,deleted,m-0-1,r-0-1-1,2800
-3100,a,right,fail,ok,m-0-2,r-0-2-1,
-3200,a,left,receive,ok,m-0-2,r-0-2-2,o-0-2
-5200,a,a,redrive,out,m-0-2,,d
-5220,d,a,arrive,new,m-1-0,,o-0-2
-5300,a,left,delete,gone,m-0-2,r-0-2-2,
-5400,a,left,delete,gone,m-0-2,r-0-2-2,
-6000,a,left,receive,empty,,,
-7000,a,left,receive,wait,,,
-9000,a,left,receive,empty,,,
-9500,a,shop,change,MessageNotInflight,,r-0-0-1,
-60200,d,d,expire,expired,m-1-0,,60000
-"""
-PARTS = HEADERS + """report,a,3,0,5,2,2,0,1,0,0,0,1,0,0,0,0,0,0,0,3,0,0,0,5300,2800,2500,2800,2800
-report,d,0,0,0,0,0,1,0,0,1,0,0,0,0,0,0,0,0,0,1,0,0,0,0,,,,
-"""
-TEXT = """run.txt: 25 rows, the last at 1 min 0 s
-!! LOST BY EXPIRY: 1 in d
-
-   came in  deleted  dead-lettered  lost  left  age 50 %  age 95 %  depth
-a        3        2              1     0     0    2.50 s    2.80 s      3
-d        1        0              0     1     0         -         -      1  !!
-
-a
-   sent                                   3
-   deleted                                2 of 3
-   handled once                           2 of 3
-   handled more than once                 1 of 3, at most 2 times
-   handled, yet not deleted               1 of 3
-   tries a message, mean               1.67
-   tries a message, greatest              2
-   services that failed                   1
-   dead-lettered                          1 of 3, to d
-   lost by expiry                         0 of 3
-   left at the end                        0 of 3
-   age when deleted, 50 %            2.50 s
-   age when deleted, 95 %            2.80 s
-   age when deleted, 99 %            2.80 s
-   age when deleted, greatest        2.80 s
-   greatest depth                         3 at 200 ms
-   backlog gone at                        - (never over 10 waited)
-   API requests                          15
-     SendMessage                          3
-     ReceiveMessage                       6
-       of them empty                      2
-     DeleteMessage                        5
-     ChangeMessageVisibility              1
-     of all, refused                      1
-
-d
-   sent                                   0
-   came as dead letters                   1
-   deleted                                0 of 1
-   handled once                           0 of 1
-   handled more than once                 0 of 1
-   dead-lettered                          0 of 1
-!! LOST BY EXPIRY                         1 of 1
-   left at the end                        0 of 1
-   greatest depth                         1 at 5.22 s
-   backlog gone at                        - (never over 10 waited)
-   API requests                           0
-     SendMessage                          0
-     ReceiveMessage                       0
-       of them empty                      0
-     DeleteMessage                        0
-     ChangeMessageVisibility              0
-"""
-FIFO = HEADER + """0,f.fifo,shop,send,new,m-0-0,,900150983cd24fb0d6963f7d28e17f72
-5,f.fifo,shop,send,repeat,m-0-0,,900150983cd24fb0d6963f7d28e17f72
-6,f.fifo,shop,send,MissingGroup,,,
-10,f.fifo,left,receive,ok,m-0-0,r-0-0-1,o-0-0
-2010,f.fifo,f.fifo,release,visible,m-0-0,,
-2500,f.fifo,left,delete,ReceiptHandleIsInvalid,,r-0-0-1,
-2501,f.fifo,left,delete,ReceiptHandleIsInvalid,,r-0-0-1,
-2502,f.fifo,left,delete,ReceiptHandleIsInvalid,,"r,""x",
-3000,f.fifo,left,receive,ok,m-0-0,r-0-0-2,o-0-0
-3500,f.fifo,left,delete,deleted,m-0-0,r-0-0-2,3500
-3600,f.fifo,left,delete,gone,m-0-0,r-0-0-7,
-"""
+LOG = log_at("batch.log")
+PARTS = log_at("batch.rest")
+TEXT = log_at("batch.txt")
+FIFO = log_at("fifo.log")
 # A delayed message, a forward that arrives and one that does not, a move, and one message in flight in the end.
-WAYS = HEADER + """0,a,shop,send,new,m-0-0,,900150983cd24fb0d6963f7d28e17f72
-0,a,shop,send,new,m-0-1,,900150983cd24fb0d6963f7d28e17f72
-1000,a,a,release,visible,m-0-1,,
-1500,a,left,receive,ok,m-0-0,r-0-0-1,o-0-0
-1600,a,left,forward,out,m-0-0,r-0-0-1,d
-1600,a,left,delete,deleted,m-0-0,r-0-0-1,1600
-1700,d,left,arrive,new,m-1-0,,o-1-0
-1800,a,left,receive,ok,m-0-1,r-0-1-1,o-0-1
-2000,a,a,release,visible,m-0-1,,
-2000,a,a,redrive,out,m-0-1,,d
-"""
+WAYS = log_at("ways.log")
 summary = module_of("summary")
 KEYS = ["log", "end_seen", "rows", "last_row_at_ms", "has_report", "queues"]
 
@@ -392,16 +293,12 @@ class SideBySide(SummaryCase):
 
 class Stream(SummaryCase):
     def test_standard_input(self):
-        run = subprocess.run([sys.executable, os.path.join(TOOLS, "summary"), "-"], input=LOG + PARTS,
-                             capture_output=True, text=True)
-        self.assertEqual((run.returncode, run.stderr), (0, ""))
-        self.assertEqual(run.stdout, TEXT.replace("run.txt", "standard input"))
+        self.assertEqual(self.run_command("summary", "-", stdin=LOG + PARTS),
+                         (0, TEXT.replace("run.txt", "standard input"), ""))
 
     def test_output_on_standard_input(self):
         self.write("run.txt", LOG)
-        run = subprocess.run([sys.executable, os.path.join(TOOLS, "summary"), "run.txt", "-"], input=PARTS,
-                             capture_output=True, text=True, cwd=self.folder)
-        self.assertEqual((run.returncode, run.stdout, run.stderr), (0, TEXT, ""))
+        self.assertEqual(self.run_command("summary", "run.txt", "-", stdin=PARTS), (0, TEXT, ""))
 
     def test_messages_that_are_gone_are_forgotten(self):
         """A log in which five messages at most are alive, one service in ten fails, and one receipt stays open."""
@@ -481,14 +378,8 @@ class Faults(SummaryCase):
         self.assert_fault(self.run_tool("summary", "bytes"), "summary: bytes is not UTF-8")
 
     def test_words(self):
-        log = self.write("log", LOG)
-        self.assert_faults("summary", (
-                ((), "the following arguments are required: FILE (--help tells the usage)"),
-                (("-", "-"), "standard input can be read once"),
-                ((log, "--queue"), "argument --queue: expected one argument (--help tells the usage)"),
-                ((log, "--queue", "x"), "there is no queue x"),
-                ((log, "--fast"), "unrecognized arguments: --fast (--help tells the usage)"),
-                ((log, log, log), f"{log} is the log of a third run: two can be told side by side")))
+        self.write("log", LOG)
+        self.assert_stored_faults("summary")
 
     def test_cut(self):
         """No prefix of a whole output is reported, other than one that ends with a row of its log."""
@@ -585,11 +476,9 @@ class Program(SummaryCase):
     @needs_program
     def test_summary_of_the_documents(self):
         scenario = os.path.join(ROOT, "examples", "dead_letters.toml")
-        run = subprocess.run([PROGRAM, "run", scenario], capture_output=True, check=True)
-        told = subprocess.run([sys.executable, os.path.join(TOOLS, "summary"), "-", "--queue", "orders"],
-                              input=run.stdout, capture_output=True)
-        self.assertEqual((told.returncode, told.stderr), (0, b""))
-        self.assertIn(f"```\n{told.stdout.decode()}```\n", text_at(TOOLS, "README.md"))
+        status, out, err = self.run_command("summary", "-", "--queue", "orders", stdin=printed("run", scenario))
+        self.assertEqual((status, err), (0, ""))
+        self.assertIn(f"```\n{out}```\n", text_at(TOOLS, "README.md"))
 
     @needs_program
     def test_examples(self):
@@ -597,10 +486,6 @@ class Program(SummaryCase):
         paths = glob.glob(os.path.join(ROOT, "examples", "**", "*.toml"), recursive=True)
         self.assertGreater(len(paths), 10)
         for scenario in paths:
-            run = subprocess.run([PROGRAM, "run", "--preview", scenario], capture_output=True, check=True, text=True)
+            run = subprocess.run([PROGRAM, "run", "--v3", scenario], capture_output=True, check=True, text=True)
             for values in self.queues(run.stdout).values():
                 self.assertIsNotNone(values["left_visible"], scenario)
-
-
-if __name__ == "__main__":
-    unittest.main()

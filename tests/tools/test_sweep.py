@@ -7,9 +7,9 @@ import shlex
 import signal
 import subprocess
 import sys
-import unittest
 
-from tool import LIMIT, PROGRAM, REPORT_HEADER, ROOT, TOOLS, ToolCase, needs_program, read_whole, text_at, wait_for
+from tool import (LIMIT, PROGRAM, REPORT_HEADER, ROOT, TOOLS, ToolCase, needs_program, ran, read_whole, text_at,
+                  wait_for)
 from scenario_texts import consumer, producer, queue_of, scenario_of, table
 from rehearse_tools.console import toml_of
 from rehearse_tools.variants import values_of
@@ -79,9 +79,8 @@ class Sweep(ToolCase):
                                   "twice, and --spread counts each run as an independent one")
         status, out, _ = self.sweep(self.scenario, "--vary", "seed=3,3", "--columns", "sends")
         self.assertEqual((status, len(out.splitlines())), (0, 5))
-        status, _, err = self.sweep(self.scenario, "--vary", "seed=1,1", "--zip", "actor.a.script=a,b", "--spread",
-                                    "seed")
-        self.assertEqual(status, 0, err)
+        _, err = self.ends(0, self.sweep(self.scenario, "--vary", "seed=1,1", "--zip", "actor.a.script=a,b", "--spread",
+                                         "seed"))
 
     def test_a_variant_that_is_refused(self):
         status, out, _ = self.sweep(self.scenario, "--vary", "queue.q.visibility_s=51,2")
@@ -109,10 +108,9 @@ class Sweep(ToolCase):
         os.symlink(own, link)
         for command, wanted in (([own], own), ([link], link), (["./sqs_rehearse-sweep"], link),
                                 ([sys.executable, "-m", "rehearse_tools", "sweep"], own)):
-            ran = subprocess.run([*command, self.scenario, "--vary", "seed=1", "--print-jobs", "jobs"], cwd=self.folder,
-                                 env={**os.environ, "PYTHONPATH": TOOLS, "SQS_REHEARSE": self.program}, text=True,
-                                 capture_output=True)
-            self.assertEqual((ran.stdout.split()[0], ran.stderr), (wanted, ""))
+            _, out, err = ran([*command, self.scenario, "--vary", "seed=1", "--print-jobs", "jobs"], cwd=self.folder,
+                              env={**os.environ, "PYTHONPATH": TOOLS, "SQS_REHEARSE": self.program})
+            self.assertEqual((out.split()[0], err), (wanted, ""))
 
     def test_jobs_and_their_collection(self):
         words = self.scenario, "--vary", "queue.q.visibility_s=2,51", "--vary", 'horizon=7,"8"', "--vary", "seed=1"
@@ -134,26 +132,29 @@ class Sweep(ToolCase):
 
     def test_the_scenario_of_one_variant(self):
         words = "--vary", "queue.q.visibility_s=7", "--vary", "seed=3", "--print-scenario"
-        ran = self.run_tool("sweep", self.scenario, *words, SQS_REHEARSE="/none")
+        out = self.output("sweep", self.scenario, *words, SQS_REHEARSE="/none")
         wanted = SCENARIO.replace("visibility_s = 1", "visibility_s = 7").replace("seed = 0", "seed = 3")
-        self.assertEqual((ran[0], toml_of(ran[1]), ran[2]), (0, toml_of(wanted), ""))
+        self.assertEqual(toml_of(out), toml_of(wanted))
         self.assert_fault(self.sweep(self.scenario, "--vary", "seed=1..20", "--print-scenario"),
                           "sweep: --print-scenario prints one variant, and these are 20")
         self.assert_fault(self.sweep(self.scenario, "--vary", "seed=1", "--print-scenario", "--spread", "seed"),
                           "sweep: --require and --spread go with runs, and nothing is run")
 
     def test_version_3_is_asked_for(self):
-        """Without --preview nothing is run. With it the program gets this word, and so do the commands of jobs."""
+        """Without --v3 nothing is run. With it, or its former name, the program gets the name that older ones know, too. The
+        commands of jobs have --v3."""
         old, new = self.scenario, self.write("3.toml", SCENARIO.replace("version = 1", "version = 3"))
-        told = "has version 3, a preview, which is read only for the word --preview"
+        told = "has version 3, which is read only for the word --v3"
         self.assert_fault(self.sweep(new, "--vary", "seed=1"), f"sweep: {new} {told}")
         self.assert_fault(self.sweep(old, "--vary", "version=2,3"), f"sweep: {old} {told}")
         self.write("program", STAND_IN.replace('"$1 $2 $4 $5 $#" = "run --scripts --log /dev/null 5"',
                                                '"$1 $2 $3 $5 $6 $#" = "run --preview --scripts --log /dev/null 6"'))
-        words = new, "--preview", "--vary", "seed=1..2", "--columns", "sends"
-        self.assertEqual(self.sweep(*words)[:2], (0, "seed,failed,queue,sends\n1,,q,101\n1,,r,0\n2,,q,102\n2,,r,0\n"))
-        status, jobs, err = self.sweep(*words, "--print-jobs", "jobs")
-        self.assertEqual((status, [" --preview " in job for job in jobs.splitlines()], err), (0, [True, True], ""))
+        words = new, "--vary", "seed=1..2", "--columns", "sends"
+        for asked in ("--preview", "--v3"):
+            self.assertEqual(self.sweep(*words, asked)[:2],
+                             (0, "seed,failed,queue,sends\n1,,q,101\n1,,r,0\n2,,q,102\n2,,r,0\n"))
+        status, jobs, err = self.sweep(*words, "--v3", "--print-jobs", "jobs")
+        self.assertEqual((status, [" --v3 " in job for job in jobs.splitlines()], err), (0, [True, True], ""))
         first = subprocess.run(["sh", "-c", f"{shlex.quote(sys.executable)} {jobs.splitlines()[0]}"])
         self.assertEqual(first.returncode, 0)
 
@@ -165,9 +166,9 @@ class Sweep(ToolCase):
 
     def test_values_that_are_lists(self):
         words = self.scenario, "--vary", "queue.q.x=[5, 30],[[0, 1], [9, 2]],[],\"[a]\",[b]", "--vary", "seed=1"
-        ran = [self.sweep(*words[:2], f"queue.q.x={word}", "--print-scenario") for word in
-               ("[5, 30]", "[[0, 1], [9, 2]]", "[]", '"[a]"', "[b]")]
-        self.assertEqual([toml_of(out)["queue"][0]["x"] for _, out, _ in ran],
+        runs = [self.sweep(*words[:2], f"queue.q.x={word}", "--print-scenario") for word in
+                ("[5, 30]", "[[0, 1], [9, 2]]", "[]", '"[a]"', "[b]")]
+        self.assertEqual([toml_of(out)["queue"][0]["x"] for _, out, _ in runs],
                          [[5, 30], [[0, 1], [9, 2]], [], "[a]", "[b]"])
         self.assertEqual(self.sweep(*words)[2].splitlines()[-1], "sweep: 5 of 5 variants run, 0 failed")
 
@@ -180,47 +181,15 @@ class Sweep(ToolCase):
         known = (f"{COLUMNS},door_age_p50,door_age_p95,door_age_max,requests,cost,backlog_gone,new_age_p50,new_age_p95,"
                  "new_age_max,moved_age_p50,moved_age_p95,moved_age_max,window_age_p95,"
                  "depth_max_at_ms,in_flight_max,in_flight_max_at_ms,received_again,tries_max,busy").replace(",", ", ")
-        for words, line in (
-                ((), "a SCENARIO and at least one --vary, --require or --columns are needed (--help tells the usage)"),
-                ((self.scenario,),
-                 "a SCENARIO and at least one --vary, --require or --columns are needed (--help tells the usage)"),
-                ((self.scenario, "--require", "q.sends=1 in 100%"),
-                 "q.sends=1 in 100%: a share of the runs is under 100 %; without `in` it must hold in all"),
-                ((self.scenario, "--vary", "seed"), "seed is no setting with values, as seed=1..20"),
-                ((self.scenario, "--vary", "seed=1,,2"), "1,,2 is no list of values, as 2,5,10 or 1..20"),
-                ((self.scenario, "--vary", "seed=3..1"), "3..1 has no values or over 1000000"),
-                ((self.scenario, "--vary", "seed=1", "--vary", "seed=2"), "seed is given twice"),
-                ((self.scenario, "--vary", "seed=1..2000", "--vary", "horizon=1..2000"), "over 1000000 variants"),
-                ((self.scenario, "--vary", "queue.x.delay_s=1"),
-                 "the scenario has no table [[queue]] with the name x"),
-                ((self.scenario, "--vary", "seed=1", "--spread", "horizon"),
-                 "horizon is not varied, so that nothing spreads over it"),
-                ((self.scenario, "--vary", "seed=1", "--program", "/nowhere"), "there is no program /nowhere"),
-                (("none", "--vary", "seed=1"), "cannot read none: No such file or directory"),
-                (("--collect", "none"), "cannot read none: No such file or directory"),
-                ((self.scenario, "--require", "q.sends"), "q.sends is no requirement, as orders.age_p95<60s"),
-                ((self.scenario, "--require", "q.sends<1s"), "q.sends<1s: 1s is not a number without a unit"),
-                ((self.scenario, "--require", "q.age_max<x"),
-                 "q.age_max<x: x is not a number with a unit, as 60s"),
-                ((self.scenario, "--require", "x.sends<1"), "x.sends<1: there is no queue x"),
-                ((self.scenario, "--require", "q.sense<1"),
-                 f"q.sense<1: there is no column sense; there are {known}"),
-                ((self.scenario, "--vary", "seed=1", "--columns", "sends,x"),
-                 f"there is no column x; there are {known}"),
-                ((self.scenario, "--vary", "count.q=1"), "the scenario has no table [[actor]] with the name q"),
-                ((self.scenario, "--vary", "seed=1", "--jobs", "0"), "--jobs is 1 to 1024"),
-                ((self.scenario, "--vary", "seed=77", "--output", "s.toml/rows.csv"),
-                 "cannot write s.toml/rows.csv: Not a directory"),
-                ((self.scenario, "--vary", "seed=77", "--output", "."), "cannot write .: Is a directory"),
-                (("--collect", "."), ". has no whole result of a sweep")):
-            with self.subTest(words=words):
-                self.assert_fault(self.sweep(*words), f"sweep: {line}")
+        self.assert_stored_faults("sweep", SQS_REHEARSE=self.program)
+        for words, line in ((("--require", "q.sense<1"), "q.sense<1: there is no column sense"),
+                            (("--vary", "seed=1", "--columns", "sends,x"), "there is no column x")):
+            self.assert_fault(self.sweep(self.scenario, *words), f"sweep: {line}; there are {known}")
 
     def test_files_that_are_no_scenario(self):
         for data in (b"\x00\x01", b"version = ", "version = 1".encode("utf-16"), b"a = " + b"[" * 3_000):
             self.write("bad.toml", data)
-            status, out, err = self.sweep("bad.toml", "--vary", "seed=1")
-            self.assertEqual((status, out, len(err.splitlines())), (2, "", 1), err)
+            self.refusal(self.sweep("bad.toml", "--vary", "seed=1"))
 
     def test_requirements(self):
         words = self.scenario, "--vary", "queue.q.visibility_s=2,51", "--vary", "seed=1,3"
@@ -318,8 +287,8 @@ r         2     0          0      0       0         0           0      0        
                                rb"0 failed\r\n$")
 
     def test_faults_of_the_scenario_come_before_those_of_the_program(self):
-        ran = self.sweep("none", "--vary", "seed=1", "--program", "/nowhere")
-        self.assert_fault(ran, "sweep: cannot read none: No such file or directory")
+        self.assert_fault(self.sweep("none", "--vary", "seed=1", "--program", "/nowhere"),
+                          "sweep: cannot read none: No such file or directory")
 
     def test_files_of_jobs_that_are_none(self):
         folder = self.path("jobs")
@@ -373,7 +342,3 @@ r         2     0          0      0       0         0           0      0        
         self.assertEqual([row[:8] for row in rows[:2]], [["5", "", "orders", "2", "0", "3", "0", "1"],
                                                          ["0", "", "orders", "2", "0", "3", "0", "1"]])
         self.assertEqual(rows[2][1], "refused 14 OutOfRange at queue[0].visibility_s")
-
-
-if __name__ == "__main__":
-    unittest.main()

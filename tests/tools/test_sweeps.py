@@ -7,7 +7,7 @@ import subprocess
 import unittest
 
 from test_sweep import STAND_IN, SCENARIO
-from tool import ROOT, ToolCase, text_at
+from tool import HERE, ROOT, ToolCase, ran, text_at
 
 from rehearse_tools.console import library
 
@@ -19,22 +19,7 @@ exec xargs -d '\\n' -n 1 -P 2 sh -c
 """
 # In the place of ssh: it notes each host, of which `dead` never answers, and `dying` only the first time. A job of `alive`
 # waits until `dying` was given one, or for ten minutes.
-SSH = """#!/bin/sh
-while [ "${1#-}" != "$1" ]; do
-  case $1 in -o|-l|-p) shift 2;; *) shift;; esac
-done
-host=$1; shift
-[ "$1" = -- ] && shift
-echo "$host" >> "$CALLS"
-[ "$host" = dead ] && exit 255
-[ "$host" = dying ] && [ "$(grep -c dying "$CALLS")" -gt 1 ] && exit 255
-tries=0
-while [ "$host" = alive ] && [ "$1" != true ] && [ "$(grep -c dying "$CALLS")" -lt 2 ] && [ $tries -lt 6000 ]; do
-  sleep 0.1
-  tries=$((tries + 1))
-done
-exec sh -c "$*"
-"""
+SSH = text_at(HERE, "stand-ins", "ssh")
 
 
 class Sweeps(ToolCase):
@@ -51,10 +36,7 @@ class Sweeps(ToolCase):
 
     def run_it(self, *command, **environment):
         """Runs a command that must succeed, and returns what it printed on standard error."""
-        ran = subprocess.run(command, cwd=self.folder, stdin=subprocess.DEVNULL, capture_output=True, text=True,
-                             env={**os.environ, **environment})
-        self.assertEqual(ran.returncode, 0, ran.stderr)
-        return ran.stderr
+        return self.ends(0, ran(command, cwd=self.folder, stdin=subprocess.DEVNULL, env={**os.environ, **environment}))[1]
 
     def assert_collected(self, files=5):
         self.assertEqual(self.sweep("--collect", "results"), (0, self.whole, ""))
@@ -70,9 +52,8 @@ class Sweeps(ToolCase):
     def test_words_that_are_missing(self):
         for command in (["share.sh"], ["share.sh", "jobs", "x", "2"], ["share.sh", "jobs", "1", "0"], ["parallel.sh"],
                         ["slurm.sh", "50", "results"]):
-            ran = subprocess.run([f"{FILES}/{command[0]}", *command[1:]], cwd=self.folder, capture_output=True,
-                                 text=True)
-            self.assertEqual((ran.returncode, ran.stdout, ran.stderr.split(".sh ")[0] + ".sh"),
+            status, out, err = ran([f"{FILES}/{command[0]}", *command[1:]], cwd=self.folder)
+            self.assertEqual((status, out, err.split(".sh ")[0] + ".sh"),
                              (2, "", f"usage: {'sbatch ' * (command[0] == 'slurm.sh')}examples/sweeps/{command[0]}"))
 
     def test_parallel(self):
@@ -93,9 +74,9 @@ class Sweeps(ToolCase):
         os.chmod(self.write("ssh", SSH), 0o755)
         environment = {**os.environ, "PARALLEL_SSH": self.path("ssh"), "CALLS": self.path("calls")}
         environment.pop("SHELL", None)
-        ran = subprocess.run([f"{FILES}/parallel.sh", "jobs", "hosts"], cwd=self.folder, stdin=subprocess.DEVNULL,
-                             capture_output=True, text=True, env=environment)
-        return ran.returncode, ran.stderr
+        status, _, err = ran([f"{FILES}/parallel.sh", "jobs", "hosts"], cwd=self.folder, stdin=subprocess.DEVNULL,
+                             env=environment)
+        return status, err
 
     @unittest.skipUnless(shutil.which("parallel"), "GNU parallel is not here")
     def test_hosts_that_are_dead_and_that_die(self):

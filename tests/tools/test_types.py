@@ -1,11 +1,10 @@
 """Tests of tests/types, in a folder that has a copy of it and few files."""
 import os
 import shutil
-import subprocess
 import sys
 import unittest
 
-from tool import ROOT, ToolCase
+from tool import ROOT, ToolCase, ran
 
 TYPED = '"""A tool."""\n\n\ndef twice(number: int) -> int:\n    return 2 * number\n'
 MODULE = "/** @param {number} number */\nexport const twice = (number) => 2 * number;\n"
@@ -21,7 +20,7 @@ class Types(ToolCase):
                            "tools/rehearse_tools/__init__.py": "", "tools/one.py": TYPED,
                            "tools/text": "#!/bin/sh\n", "page/one.js": MODULE}.items():
             self.write_file(path, text)
-        for path in ("tests/types", "page/tsconfig.json"):
+        for path in ("tests/checks.py", "tests/types", "page/tsconfig.json"):
             shutil.copy2(os.path.join(ROOT, path), self.path(path))
 
     def write_file(self, name, text):
@@ -30,9 +29,9 @@ class Types(ToolCase):
 
     def looked(self):
         """The status of tests/types and the lines that it prints."""
-        ran = subprocess.run([sys.executable, self.path("tests/types")], capture_output=True, text=True)
-        self.assertEqual(ran.stderr, "")
-        return ran.returncode, ran.stdout.splitlines()
+        status, out, err = ran([sys.executable, self.path("tests/types")])
+        self.assertEqual(err, "")
+        return status, out.splitlines()
 
     def summed(self, typed, styled, modules, failed):
         """The last two lines for so many files by each checker, of which so many have faults."""
@@ -41,9 +40,9 @@ class Types(ToolCase):
                 f"{typed + styled + count - failed} passed, {failed} failed{skipped}"]
 
     def test_all_is_well(self):
-        """mypy takes one.py, the package's __init__.py, all.py, house and types; pyflakes takes the same five; tsc
-        takes one.js."""
-        self.assertEqual(self.looked(), (0, [*(() if HAS_TSC else LEFT_OUT), *self.summed(5, 5, 1, 0)]))
+        """mypy takes one.py, the package's __init__.py, all.py, checks.py, house and types; pyflakes takes the same six;
+        tsc takes one.js."""
+        self.assertEqual(self.looked(), (0, [*(() if HAS_TSC else LEFT_OUT), *self.summed(6, 6, 1, 0)]))
 
     def test_faults(self):
         """A signature without types, a call against the types of another one, and an import that is not used."""
@@ -51,7 +50,7 @@ class Types(ToolCase):
         self.write_file("tools/wrong", "#!/usr/bin/env python3\nimport one\n\none.twice('2')\n")
         self.write_file("tests/unused", "#!/usr/bin/env python3\nimport os\n")
         status, lines = self.looked()
-        self.assertEqual((status, lines[-2:]), (1, self.summed(7, 8, 1, 3)))
+        self.assertEqual((status, lines[-2:]), (1, self.summed(8, 9, 1, 3)))
         self.assertEqual([line.split(": ")[0].split(":")[0:2] for line in lines[:-2] if line not in LEFT_OUT],
                          [["tools/bare.py", "1"], ["tools/wrong", "4"], ["tests/unused", "2"]])
 
@@ -60,9 +59,5 @@ class Types(ToolCase):
         """A module that calls a function against its types."""
         self.write_file("page/wrong.js", 'import { twice } from "./one.js";\n\ntwice("2");\n')
         status, lines = self.looked()
-        self.assertEqual((status, lines[-2:]), (1, self.summed(5, 5, 2, 1)))
+        self.assertEqual((status, lines[-2:]), (1, self.summed(6, 6, 2, 1)))
         self.assertEqual([line.split("(")[0] for line in lines[:-2]], ["page/wrong.js"])
-
-
-if __name__ == "__main__":
-    unittest.main()

@@ -1,5 +1,4 @@
 """Tests times with units, as options and requirements have them."""
-import unittest
 from fractions import Fraction
 
 from tool import ToolCase
@@ -29,7 +28,3 @@ class Times(ToolCase):
         self.assertEqual(quantity("5"), (Fraction(5), None))
         self.assertEqual(quantity("1m0.5s"), (Fraction(60_500), "s"))
         self.assertEqual(quantity(clock(62_003)), (Fraction(62_003), "s"))
-
-
-if __name__ == "__main__":
-    unittest.main()

@@ -8,7 +8,7 @@ import sys
 import unittest
 import zipfile
 
-from tool import LIMIT, TOOLS, ToolCase
+from tool import LIMIT, TOOLS, ToolCase, ran
 from make_wheel import build_wheel, record_of
 
 NAME = "rehearse_tools-{0}-py3-none-any.whl"
@@ -22,13 +22,13 @@ class Wheel(ToolCase):
 
     def assert_whole(self, folder):
         """The package in a folder has all files of the repository's, and can be imported from there."""
-        for end in "*.py", "facts/*.csv":
+        for end in "*.py", "*.html", "facts/*.csv":
             for path in pathlib.Path(TOOLS, "rehearse_tools").glob(end):
                 installed = pathlib.Path(folder, path.relative_to(TOOLS))
                 self.assertEqual(installed.read_bytes(), path.read_bytes())
-        ran = subprocess.run([sys.executable, "-B", "-c", ASKED], cwd=self.folder, capture_output=True, text=True,
-                             env={**os.environ, "PYTHONPATH": folder})
-        self.assertEqual((ran.stdout, ran.stderr), ("version\n", ""))
+        environment = {**os.environ, "PYTHONPATH": folder}
+        _, out, err = ran([sys.executable, "-B", "-c", ASKED], cwd=self.folder, env=environment)
+        self.assertEqual((out, err), ("version\n", ""))
 
     def test_what_is_in_it(self):
         """Each file stands in the record with its checksum, and the name of the wheel has the version."""
@@ -46,12 +46,7 @@ class Wheel(ToolCase):
     @unittest.skipUnless(importlib.util.find_spec("pip"), "pip is not here")
     def test_pip_installs_it_without_a_network(self):
         target = self.path("target")
-        ran = subprocess.run([sys.executable, "-m", "pip", "install", "--quiet", "--no-index", "--no-cache-dir",
-                              "--disable-pip-version-check", "--target", target, TOOLS], capture_output=True, text=True,
-                             timeout=LIMIT, stdin=subprocess.DEVNULL)
-        self.assertEqual(ran.returncode, 0, ran.stderr)
+        self.ends(0, ran([sys.executable, "-m", "pip", "install", "--quiet", "--no-index", "--no-cache-dir",
+                          "--disable-pip-version-check", "--target", target, TOOLS], timeout=LIMIT,
+                         stdin=subprocess.DEVNULL))
         self.assert_whole(target)
-
-
-if __name__ == "__main__":
-    unittest.main()

@@ -2,9 +2,8 @@
 import json
 import re
 import subprocess
-import unittest
 
-from tool import HEADER, PROGRAM, ToolCase, ended, needs_program, open_end
+from tool import HEADER, PROGRAM, ToolCase, ended, needs_program, open_end, ran
 from scenario_texts import producer, queue_of, scenario_of
 
 # Two messages come into q, of which one is deleted and the other one is left; a poll of p is empty.
@@ -121,8 +120,7 @@ class Program(ToolCase):
         """Each tool refuses what a program has written before it ended, and prints nothing."""
         for name, words in CALLS:
             with self.subTest(name=name, words=words):
-                ran = self.run_tool(name, "-", *words, stdin=output)
-                self.assert_fault(ran, f"{name}: standard input: {MISSING}")
+                self.assert_fault(self.run_tool(name, "-", *words, stdin=output), f"{name}: standard input: {MISSING}")
 
     def test_a_run_that_is_killed(self):
         """The program is killed once 5,000 rows are there; what it has written of the last one is left out."""
@@ -132,11 +130,7 @@ class Program(ToolCase):
         self.assert_all_refuse(b"".join(rows))
 
     def test_a_run_without_memory(self):
-        run = subprocess.run(["bash", "-c", f"ulimit -v 6000; exec {PROGRAM} run {self.scenario}"], capture_output=True)
-        self.assertEqual((run.returncode, run.stderr), (3, b"refused 34 Memory\n"))
-        self.assertGreater(run.stdout.count(b"\n"), 1_000)
-        self.assert_all_refuse(run.stdout)
-
-
-if __name__ == "__main__":
-    unittest.main()
+        status, out, err = ran(["bash", "-c", f"ulimit -v 6000; exec {PROGRAM} run {self.scenario}"], text=False)
+        self.assertEqual((status, err), (3, b"refused 34 Memory\n"))
+        self.assertGreater(out.count(b"\n"), 1_000)
+        self.assert_all_refuse(out)

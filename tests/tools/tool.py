@@ -12,6 +12,7 @@ import importlib.util
 import os
 import pickle
 import re
+import shlex
 import socket
 import subprocess
 import sys
@@ -27,7 +28,7 @@ needs_program = unittest.skipUnless(PROGRAM, "SQS_REHEARSE does not name the pro
 # Seconds after which what a test waits for is taken to hang; a busy machine may take long.
 LIMIT = 600
 
-sys.path.insert(0, TOOLS)
+sys.path[:0] = [TOOLS, os.path.dirname(HERE), os.path.join(os.path.dirname(HERE), "reference")]
 from rehearse_tools.__main__ import TOOLS as USERS_TOOLS  # noqa: E402 (the folder of the package comes first)
 from rehearse_tools.logs import Head  # noqa: E402
 
@@ -53,11 +54,16 @@ def text_at(*parts):
         return file.read()
 
 
+def log_at(name):
+    """A text of logs/: a log that was written by hand, or what a tool has to make of one."""
+    return text_at(HERE, "logs", name)
+
+
 def options_in(path):
     """The options that a program in Python takes, by its text."""
     text = text_at(path)
-    calls = [*re.findall(r'add_argument\(("--[a-z-]+")', text), *re.findall(r"\.take\((.*?)\)\n", text, re.S)]
-    return [option for call in calls for option in re.findall(r'"(--[a-z-]+)"', call)]
+    calls = [*re.findall(r'add_argument\(("--[a-z][a-z0-9-]*")', text), *re.findall(r"\.take\((.*?)\)\n", text, re.S)]
+    return [option for call in calls for option in re.findall(r'"(--[a-z][a-z0-9-]*)"', call)]
 
 
 class Forks:
@@ -143,11 +149,17 @@ LAST_HEADERS = "transfer,from,to,kind,due,number,message,origin,md5\ntask,name,s
 HEADERS = FINAL_HEADER + LAST_HEADERS
 
 
+def ran(words, text=True, **more):
+    """Status, standard output and standard error of a process that has ended: texts, or bytes without `text`."""
+    run = subprocess.run(words, capture_output=True, text=text, **more)
+    return run.returncode, run.stdout, run.stderr
+
+
 def printed(*words, text=None):
     """What the program prints, which ends well, with a text as its standard input."""
-    ran = subprocess.run([PROGRAM, *words], input=text, capture_output=True, text=True)
-    assert (ran.returncode, ran.stderr) == (0, ""), ran.stderr
-    return ran.stdout
+    status, out, err = ran([PROGRAM, *words], input=text)
+    assert (status, err) == (0, ""), err
+    return out
 
 
 def ended(log, finals="", queues=()):
@@ -213,12 +225,11 @@ class ToolCase(unittest.TestCase):
             subprocess.run([PROGRAM, "run", os.path.join(ROOT, "examples", name)], check=True, stdout=file)
         return path
 
-    def run_command(self, name, *words, **environment):
+    def run_command(self, name, *words, stdin=None, **environment):
         """Status, standard output and standard error of a tool that runs in the test's folder, from the start of Python
-        on."""
-        run = subprocess.run([sys.executable, os.path.join(TOOLS, name), *words], cwd=self.folder, text=True,
-                             capture_output=True, env={**os.environ, **environment})
-        return run.returncode, run.stdout, run.stderr
+        on. The text of `stdin` comes by a pipe."""
+        return ran([sys.executable, os.path.join(TOOLS, name), *words], input=stdin, cwd=self.folder,
+                   env={**os.environ, **environment})
 
     def run_tool(self, name, *words, stdin=b"", folder=None, **environment):
         """The same by a fork, which has read the tool's modules before, for a tool of the package. What depends on how
@@ -246,13 +257,32 @@ class ToolCase(unittest.TestCase):
             self.write("hostile", data)
             for log in ("hostile", "-"):
                 with self.subTest(case=case, log=log):
-                    status, out, err = self.run_tool(name, log, *words, stdin=data)
-                    self.assertEqual((status, out, len(err.splitlines())), (2, "", 1), err)
+                    err = self.refusal(self.run_tool(name, log, *words, stdin=data))
                     self.assertTrue(err.startswith(f"{name}: "), err)
+
+    def ends(self, status, ran):
+        """The standard output and standard error of a run that ends with a status."""
+        self.assertEqual(ran[0], status, ran[2])
+        return ran[1:]
+
+    def refusal(self, ran):
+        """The one line on standard error of a run that is refused, and tells nothing else."""
+        status, out, err = ran
+        self.assertEqual((status, out, len(err.splitlines())), (2, "", 1), err)
+        return err
 
     def assert_fault(self, ran, line):
         """The tool told one line on standard error, and nothing else."""
         self.assertEqual(ran, (2, "", line + "\n"))
+
+    def assert_stored_faults(self, test, **environment):
+        """Each command that faults.csv has for a test is refused with the line that stands there."""
+        rows = [row for row in csv.DictReader(text_at(HERE, "faults.csv").splitlines()) if row["test"] == test]
+        self.assertTrue(rows, test)
+        for row in rows:
+            with self.subTest(command=row["command"]):
+                name, *words = shlex.split(row["command"])
+                self.assert_fault(self.run_tool(name, *words, **environment), f"{name}: {row['line']}")
 
     def assert_faults(self, name, faults):
         """The tool tells the line of each of some words."""

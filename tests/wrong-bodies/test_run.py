@@ -7,65 +7,15 @@ import sys
 import unittest
 
 sys.path.insert(0, os.path.join(os.path.dirname(os.path.dirname(os.path.abspath(__file__))), "tools"))
-from tool import ROOT, ToolCase, module_at  # noqa: E402 (the folder of the tests of tools comes first)
+from tool import ROOT, ToolCase, module_at, text_at  # noqa: E402 (the folder of the tests of tools comes first)
 
 RUN = os.path.join(ROOT, "tests", "wrong-bodies", "run")
 run = module_at(RUN, "wrong_bodies")
-# The wrong bodies of the crate.
+# The wrong bodies of the crate, which is that of the folder tiny.
 EDITS = "tests/wrong-bodies/tiny.edits"
 
-CODE = """//! Choices of one of several numbers.
-#![tactic(auto)]
-ghost use Rattle.std.specs.Prelude.{◌≡◌};
-ghost use Rattle.tiny.specs.Choices.{chosen};
-
-/// The chosen one of two numbers.
-pub fn choose(first: u8, second: u8) -> u8
-    ensures { result ≡ chosen first second }
-{
-    match second {
-        0 => first,
-        _ => first,
-    }
-}
-
-/// The chosen one of three numbers.
-pub fn choose_of_three(first: u8, second: u8, third: u8) -> u8
-    ensures { result ≡ chosen first third }
-{
-    choose(choose(first, second), third)
-}
-
-/// Two numbers, of which one is chosen.
-#[derive(Clone, Copy)]
-pub struct Pair {
-    pub first: u8,
-    pub second: u8,
-}
-
-impl Pair {
-    /// The chosen one.
-    pub fn choose(self) -> u8
-        ensures { result ≡ chosen self.first self.second }
-    {
-        choose(self.first, self.second)
-    }
-}
-
-impl Default for Pair {
-    fn default() -> Pair {
-        let first = 0;
-        Pair { first, second: 1 }
-    }
-}
-"""
-SPECS = """-- Which of two numbers is chosen.
-use Rattle.std.specs.Prelude.{ℕ}
-
--- the first
-abbrev pub chosen : ℕ → ℕ → ℕ
-chosen first second = first
-"""
+# They end in .in, since the gate takes no file for code or definitions outside of a crate.
+CODE, SPECS = (text_at(ROOT, "tests", "wrong-bodies", "tiny", f"{name}.in") for name in ("lib.rt", "Choices.antt"))
 # Two of one function, one of a function that calls it, and one of a definition.
 WRONG = {
     "second_beside_zero": ("src/lib.rt", "        0 => first,", "        0 => second,"),
@@ -95,6 +45,7 @@ class WrongBodies(ToolCase):
         self.write("crates/tiny/specs/Choices.antt", SPECS)
         shutil.copy(RUN, self.path("tests/wrong-bodies/run"))
         shutil.copytree(os.path.join(ROOT, "tools", "rehearse_tools"), self.path("tools/rehearse_tools"))
+        shutil.copy(os.path.join(ROOT, "tools", "crate_list.py"), self.path("tools"))
 
     def answer_for_prover(self, verdict, status):
         """Puts a program before `rt` that says of two functions, and of the crate, that it is proved, or not."""
@@ -292,7 +243,3 @@ class Functions(unittest.TestCase):
         self.assertTrue(of("tiny::send::fn::choose::map+FnOnce::call_once", ("send",), (), "choose"))
         self.assertFalse(of("tiny::send::Pair::choose", ("send",), (), "choose"))
         self.assertFalse(of("tiny::choose", ("send",), (), "choose"))
-
-
-if __name__ == "__main__":
-    unittest.main()

@@ -49,9 +49,8 @@ class Mapping:
         """How many consumers replace it."""
         return min(self.most or CONSUMERS, CONSUMERS_MOST) if self.is_enabled else 0
 
-    def told(self, is_preview: bool) -> list[str]:
-        """What the model does not have of it, or the file does not say. Version 3, a preview, has batches that fail as
-        a whole."""
+    def told(self, is_version_3: bool) -> list[str]:
+        """What the model does not have of it, or the file does not say. Version 3 has batches that fail as a whole."""
         if not self.is_enabled:
             return [*self.notes, "it is not enabled, so that nobody receives"]
         notes = list(self.notes)
@@ -64,9 +63,9 @@ class Mapping:
             notes.append(f"a batch of {BATCH_MOST}, the most of a scenario, in place of {self.batch}")
         if self.window:
             notes.append(f"its batching window of {self.window} s is left out: a consumer takes what is there")
-        if self.batch > 1 and not self.is_partial and not is_preview:
+        if self.batch > 1 and not self.is_partial and not is_version_3:
             notes.append("it does not report batch item failures, so that a message that fails brings its whole batch "
-                         "back; here each message fails by itself, and with --preview its batch does")
+                         "back; here each message fails by itself, and with --v3 its batch does")
         if self.is_filtered:
             notes.append("its filter is left out: all messages of the queue come")
         return notes
@@ -135,14 +134,15 @@ def plain(text: str) -> str:
     return re.sub(r"[^ -~]", "?", text)
 
 
-def name_apart(queue: str, end: str, taken: set[str], last: str = "") -> str:
-    """A name that nothing else has, with `last` at its very end."""
+def name_apart(queue: str, end: str, taken: set[str], last: str = "", copies: int = 0) -> str:
+    """A name that nothing else has, with `last` at its very end. Its copies have names that nothing else has, too."""
     base, number = re.sub("[^A-Za-z0-9_-]+", "-", queue.removesuffix(".fifo")), 0
     while True:
         ending = (end if number == 0 else f"{end}-{number + 1}") + last
-        made = base[:NAME_MOST - len(ending)] + ending
-        if made not in taken:
-            taken.add(made)
+        made = base[:NAME_MOST - len(ending) - (len(f"-{copies}") if copies else 0)] + ending
+        names = {made, *(f"{made}-{place}" for place in range(1, copies + 1))}
+        if names.isdisjoint(taken):
+            taken |= names
             return made
         number += 1
 
@@ -155,8 +155,8 @@ def commented(lines: Iterable[str]) -> str:
 class Actors:
     """The tables of actors for some queues, as a text, and notes on them, each with the place that it is about."""
 
-    def __init__(self, queues: list[Queue], horizon: int, is_preview: bool, topics: Iterable[Topic] = ()) -> None:
-        self.is_preview, self.topics = is_preview, {topic.queue.name: topic for topic in topics}
+    def __init__(self, queues: list[Queue], horizon: int, is_version_3: bool, topics: Iterable[Topic] = ()) -> None:
+        self.is_version_3, self.topics = is_version_3, {topic.queue.name: topic for topic in topics}
         self.taken, self.text = {queue.name for queue in queues}, ""
         self.notes: list[tuple[str, str]] = []
         self.received: set[str] = set()
@@ -189,8 +189,8 @@ class Actors:
 
     def of_mapping(self, queue: Queue, mapping: Mapping) -> None:
         self.begin(f"SKELETON: the function {mapping.function} takes messages of {queue.name}, by {mapping.place}",
-                   mapping.place, mapping.told(self.is_preview))
-        fails: dict[str, Any] = {"batch_fails": "each" if mapping.is_partial else "whole"} if self.is_preview else {}
+                   mapping.place, mapping.told(self.is_version_3))
+        fails: dict[str, Any] = {"batch_fails": "each" if mapping.is_partial else "whole"} if self.is_version_3 else {}
         names = [f"{mapping.function[:NAME_MOST - 8]}-{number}" for number in range(1, mapping.consumers() + 1)]
         for place, name in enumerate(names):
             self.text += "\n" if place else ""
@@ -216,13 +216,23 @@ class Actors:
         many = min(math.ceil(count / DEPTH_OF_PRODUCER), DEPTH_PRODUCERS_MOST)
         counts = [count // many + (place < count % many) for place in range(many)]
         is_delayed = attribute.endswith("Delayed")
-        more = {} if is_delayed else {"delay_s": 0}
+        end, more = "-depth-delayed" if is_delayed else "-depth", {} if is_delayed else {"delay_s": 0}
         self.begin(f"DEPTH: the {count} messages of {attribute}, sent in the first {counts[0]} ms, as the file does "
                    f"not tell their ages", queue.name, [])
+        if self.is_version_3:
+            self.copied_depth(queue, end, counts, more)
+            return
         for place, part in enumerate(counts):
             self.text += "\n" if place else ""
-            self.producer(queue, name_apart(queue.name, f"-depth-{'delayed-' if is_delayed else ''}{place + 1}",
-                                            self.taken), part, (1, 1), **more)
+            self.producer(queue, name_apart(queue.name, f"{end}-{place + 1}", self.taken), part, (1, 1), **more)
+
+    def copied_depth(self, queue: Queue, end: str, counts: list[int], more: dict[str, Any]) -> None:
+        """The same producers in one table for each number of messages that they send, which are two at most."""
+        for place, part in enumerate(dict.fromkeys(counts)):
+            self.text += "\n" if place else ""
+            copies = counts.count(part)
+            name = name_apart(queue.name, end, self.taken, copies=copies)
+            self.producer(queue, name, part, (1, 1), **more, copies=copies)
 
     def of_wiring(self, queues: list[Queue], wiring: Wiring) -> None:
         """For each queue the senders and receivers that the file names, else skeletons if it takes no dead letters."""

@@ -41,9 +41,7 @@ Examples:
 from __future__ import annotations
 
 import collections
-import csv
 import datetime
-import io
 import math
 import os
 import random
@@ -54,7 +52,7 @@ from collections.abc import Callable, Iterable, Iterator, Sequence
 from fractions import Fraction
 from typing import Any, NamedTuple
 
-from .console import Fault, Parser, check_output, note, print_text, shown, write_text
+from .console import Fault, Parser, check_output, csv_text, note, print_text, shown, write_text
 from .queues import NAME, json_in, read_any
 from .records import PLAIN_NUMBER, column_of, records_in
 from .scenarios import text_of_string
@@ -298,14 +296,6 @@ def records_of(arrivals: Iterable[Arrival], options: Namespace) -> Iterator[list
         yield [at, "send", text, arrival.group or group, arrival.id or name, "", "", "", "", "", ""]
 
 
-def script_text(records: Iterable[Sequence[Any]]) -> str:
-    stream = io.StringIO()
-    writer = csv.writer(stream, lineterminator="\n")
-    writer.writerow(HEADER)
-    writer.writerows(records)
-    return stream.getvalue()
-
-
 def write_scripts(records: list[list[Any]], options: Namespace) -> None:
     """Writes the scripts, and prints the actors that run them."""
     lanes = [records[lane::options.side_by_side] for lane in range(options.side_by_side)]
@@ -316,7 +306,7 @@ def write_scripts(records: list[list[Any]], options: Namespace) -> None:
         check_output(path, [getattr(options, "file", None)])
     tables = []
     for path, part in zip(paths, parts):
-        text = script_text(part)
+        text = csv_text([HEADER, *part])
         if len(text.encode("utf-8", "replace")) > BYTES_MOST:
             raise Fault(f"a script has over {BYTES_MOST:,} bytes")
         write_text(path, text)
@@ -383,5 +373,5 @@ def main(words: Sequence[str]) -> int:
     elif len(records) > RECORDS_MOST:
         raise Fault(f"{len(records):,} messages take several scripts, which need --output")
     else:
-        write_text(options.output, script_text(records))
+        write_text(options.output, csv_text([HEADER, *records]))
     return 0

@@ -7,6 +7,7 @@ from __future__ import annotations
 
 import argparse
 import contextlib
+import csv
 import errno
 import importlib
 import importlib.util
@@ -39,6 +40,8 @@ TOOL_NAMED = re.compile(r"(?<![\w/.-])tools/([a-z][a-z-]*)(?![\w/-]|\.\w)")
 
 # What options that take a text are like in each tool that has them.
 LIKE: dict[str, dict[str, Any]] = {"--from": {"dest": "first"}, "--to": {"dest": "last"}, "--scripts": {"default": "."}}
+# The former names of options that take nothing, which say the same.
+FORMER = {"--v3": ["--preview"]}
 
 
 class Fault(Exception):
@@ -59,11 +62,11 @@ class Parser(argparse.ArgumentParser):
     def take(self, *options: str, flags: Iterable[str] = (), lists: Iterable[str] = (),
              numbers: Mapping[str, int | None] | None = None) -> Parser:
         """Adds options that take a text, that take nothing, that may be given several times, and that take a number
-        with a default. Those of LIKE are the same in all tools."""
+        with a default. Those of LIKE are the same in all tools, and those of FORMER have a former name, too."""
         for option in options:
             self.add_argument(option, **LIKE.get(option, {}))
         for option in flags:
-            self.add_argument(option, action="store_true")
+            self.add_argument(option, *FORMER.get(option, ()), action="store_true")
         for option in lists:
             self.add_argument(option, action="append", default=[])
         for option, default in (numbers or {}).items():
@@ -256,6 +259,13 @@ def replace_file(path: str, data: bytes) -> None:
     finally:
         with contextlib.suppress(FileNotFoundError):
             os.unlink(partial)
+
+
+def csv_text(records: Iterable[Iterable[Any]]) -> str:
+    """Records as CSV."""
+    stream = io.StringIO()
+    csv.writer(stream, lineterminator="\n").writerows(records)
+    return stream.getvalue()
 
 
 def print_text(text: str) -> None:

@@ -1,13 +1,13 @@
 """Says why the program refuses a scenario, and where in its text:
 
-    tools/explain SCENARIO [--preview] [--scripts DIR] [--program P]
+    tools/explain SCENARIO [--v3] [--scripts DIR] [--program P]
 
 The first line has the file, line and column, and after them the program's own line. Below are the line of the text,
 and in whole sentences what is wrong: which queue or actor it is, what the range is, which key or name was meant, which
 other key belongs to it. - is standard input, and --scripts the folder of the scenario's scripts, as for the program.
-With --preview the program reads version 3 too, as `run --preview` does. The program is that of --program, else of
-SQS_REHEARSE of the environment, else sqs_rehearse beside this folder. The status is 0 if the program accepts the
-scenario, 1 if it refuses it, and 2 for any other fault.
+With --v3 the program reads version 3 too, as `run --v3` does; --preview is its former name. The program is that of
+--program, else of SQS_REHEARSE of the environment, else sqs_rehearse beside this folder. The status is 0 if the program
+accepts the scenario, 1 if it refuses it, and 2 for any other fault.
 
 Of a scenario that the program accepts the first line is that of `check`. Below are, for each queue with consumers, how
 many messages a second are sent to it by producers and scripts, the mean service of each consumer, and the load: the
@@ -28,8 +28,8 @@ from collections.abc import Iterator, Sequence
 from typing import Any
 
 from .console import Fault, Parser, print_text, read_bytes, read_text, shown, toml_of
-from .keys import (ACTORS, FIFO, ITEMS, NUMBER, NUMBER_OR_NUMBERS, NUMBERS, PREVIEW, QUANTILES, REQUIRED, STRETCHES,
-                   TABLES, TEXT, TEXT_OR_TEXTS, VERSIONS, WEIGHTS, Key, keys_of)
+from .keys import (ACTORS, FIFO, ITEMS, NUMBER, NUMBER_OR_NUMBERS, NUMBERS, QUANTILES, REQUIRED, STEPS, STRETCHES,
+                   TABLES, TEXT, TEXT_OR_TEXTS, VERSION_3, VERSIONS, WEIGHTS, Key, keys_of)
 from .loads import text_of_loads
 from .positions import Lost, Path, Positions
 from .programs import program_of, reading_words
@@ -50,19 +50,24 @@ NAMES = {"queue": "A queue's name has 1 to 80 ASCII letters, digits, - and _, an
          "actor": "A name has 1 to 80 ASCII letters, digits, - and _."}
 # What a list that is the value of a key has.
 LISTS = {NUMBERS: "whole numbers", QUANTILES: "pairs [permille, ms]", WEIGHTS: "pairs [group, weight]",
-         STRETCHES: "pairs [from, to] in ms", TEXT_OR_TEXTS: "texts if it is a list"}
+         STRETCHES: "pairs [from, to] in ms", STEPS: "pairs [visible, copies]", TEXT_OR_TEXTS: "texts if it is a list"}
 QUANTILES_RULE = "It is a pair [permille, ms]. The first permille is 0 and the last 1,000; each other one is greater " \
     "than the one before it, and at most 999. Times have 1 to 86,400,000, and none is less than the one before it."
 WEIGHTS_RULE = "It is a pair [group, weight]. The group has 1 to 128 bytes of 0x21 to 0x7E, and the weight has 1 to " \
     "1,000,000."
 STRETCHES_RULE = "It is a pair [from, to] in ms. Both have 0 to 2,592,000,000, and the second is no less than the first."
+STEPS_RULE = "It is a pair [visible, copies]. The first number has 0 to 1,000,000, and is greater than that of the pair " \
+    "before it. The second has 0 to 1,000."
 ITEM_FORMS = {NUMBERS: NUMBER, NUMBER_OR_NUMBERS: NUMBER, TEXT_OR_TEXTS: TEXT,
               QUANTILES: "a pair of two whole numbers, as [500, 120]",
               WEIGHTS: 'a pair of a text and a whole number, as ["customer-7", 90]',
-              STRETCHES: "a pair of two whole numbers, as [600000, 1800000]"}
-ITEM_RULES = {QUANTILES: QUANTILES_RULE, WEIGHTS: WEIGHTS_RULE, STRETCHES: STRETCHES_RULE}
+              STRETCHES: "a pair of two whole numbers, as [600000, 1800000]",
+              STEPS: "a pair of two whole numbers, as [100, 4]"}
+ITEM_RULES = {QUANTILES: QUANTILES_RULE, WEIGHTS: WEIGHTS_RULE, STRETCHES: STRETCHES_RULE, STEPS: STEPS_RULE}
 NAME_MOST = 80
 COPIES_MOST = 1_000
+# The kinds of actors that may have copies.
+COPIED = ("producer", "consumer")
 LINE_MOST = 160
 
 
@@ -191,9 +196,9 @@ def unknown_key(scenario: Scenario) -> str:
     if not found and version != scenario.version:
         wanted = f" has {latency_keys(scenario.version)}" if key.startswith("latency_") else " has no such key"
         return f"{key} is a key of version {version}; version {scenario.version}{wanted}."
-    for kind in ACTORS if scenario.of == "actor" else ():
-        if key in {known.name for known in keys_of("actor", kind, scenario.version)}:
-            return f"{key} is a key of a {kind}, and {title} is none."
+    kinds = [kind for kind in ACTORS if key in {known.name for known in keys_of("actor", kind, scenario.version)}]
+    if scenario.of == "actor" and kinds:
+        return f"{key} is a key of a {' or '.join(kinds)}, and {title} is none."
     known = [name for name, found in scenario.keys().items()
              if not found.queues or (found.queues == FIFO) == scenario.is_fifo()]
     return f"{shown(key or '')} is no key of {title}; it has {', '.join(known)}.{nearest(key, known)}"
@@ -249,7 +254,7 @@ def range_text(key: Key | None) -> str:
     if key.words:
         return f" It is {', '.join(key.words[:-1])} or {key.words[-1]}."
     if key.name == "version":
-        return f" It is {VERSIONS[0]} or {VERSIONS[1]}, or {PREVIEW}, a preview, for the word --preview."
+        return f" It is {VERSIONS[0]} or {VERSIONS[1]}, or {VERSION_3} for the word --v3."
     if key.kind in LISTS:
         return f" It has {key.low:,} to {key.high:,} {LISTS[key.kind]}{of_each(key)}."
     if key.kind == TEXT and key.high:
@@ -337,14 +342,14 @@ def out_of_range(scenario: Scenario) -> str:
     text = f"{key} of {title} is {value_text(value)}." if scenario.of else f"{key} is {value_text(value)}."
     if key == "queue" and not scenario.of:
         return "A scenario has at least one queue."
-    if key == "version" and not scenario.of and value == PREVIEW:
-        return f"{text} It is a preview, which is read only for the word --preview."
+    if key == "version" and not scenario.of and value == VERSION_3:
+        return f"{text} It is read only for the word --v3."
     if scenario.item is not None:
         return item_out_of_range(scenario)
     if found and (found.kind in LISTS or isinstance(value, list)):
         return wrong_length(scenario, found)
     if key == "kind" and found and found.words:
-        return f"{text} A {value} is an actor of version {PREVIEW}." if value in ACTORS else \
+        return f"{text} A {value} is an actor of version {VERSION_3}." if value in ACTORS else \
             f"{text}{range_text(found)}{nearest(value, found.words)}"
     if key == "body":
         return f"{text} It has 1 byte at least for the first message, and 1,024 at most for the last."
@@ -362,7 +367,7 @@ def out_of_range(scenario: Scenario) -> str:
 
 def copies_of(scenario: Scenario, item: Any) -> list[str]:
     """The names of the copies of an actor's table, if it has some."""
-    if not isinstance(item, dict) or item.get("kind") != "consumer" or scenario.version < PREVIEW:
+    if not isinstance(item, dict) or item.get("kind") not in COPIED or scenario.version < VERSION_3:
         return []
     count = item.get("copies")
     return [f"{item.get('name')}-{number}" for number in range(1, count + 1)] \
@@ -373,7 +378,7 @@ def names_in(scenario: Scenario, of: str, number: int, item: Any) -> dict[str, s
     """The names that a table takes, each with what has it."""
     line, _ = line_of(scenario, (of, number, "name"))
     copies = copies_of(scenario, item) if of == "actor" else []
-    return {**{name: f"A copy of the consumer in line {line}" for name in copies},
+    return {**{name: f"A copy of the {item.get('kind')} in line {line}" for name in copies},
             str(item.get("name")): f"The {of} in line {line}"}
 
 
@@ -544,7 +549,7 @@ def checked(program: str, data: bytes, words: Sequence[str]) -> tuple[int, str, 
 
 
 def main(words: Sequence[str]) -> int:
-    parser = Parser(__doc__).take("--scripts", "--program", flags=["--preview"])
+    parser = Parser(__doc__).take("--scripts", "--program", flags=["--v3"])
     parser.add_argument("scenario", metavar="SCENARIO")
     options = parser.parse_args(words)
     data = read_bytes(options.scenario)

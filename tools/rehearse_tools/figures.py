@@ -10,6 +10,7 @@ from typing import NamedTuple
 
 from .logs import FIGURE_HEADER
 from .statistics import Interval
+from .units import decimal
 
 # The columns of ages of new and of moved messages, and of the worst window, each with its figure without its unit. Of
 # these the program also tells the bounds within which messages that are left may turn them.
@@ -88,4 +89,4 @@ def bounds_of(queue: str, found: Mapping[tuple[str, str], str]) -> dict[str, Int
 
 
 def cost_of(requests: int, price: float) -> str:
-    return f"{requests * price / PRICED:.6f}".rstrip("0").rstrip(".")
+    return decimal(requests * price / PRICED, 6)

@@ -1,8 +1,8 @@
 """Makes a scenario from a plan of Terraform, or from a template of CloudFormation:
 
     terraform plan -out plan && terraform show -json plan > plan.json
-    tools/from-plan plan.json [--preview] [--horizon MS] [--latency MS] [--output FILE.toml]
-    tools/from-plan template.yaml [--parameter KEY=VALUE ..] [--preview] [--horizon MS] [--latency MS]
+    tools/from-plan plan.json [--v3] [--horizon MS] [--latency MS] [--output FILE.toml]
+    tools/from-plan template.yaml [--parameter KEY=VALUE ..] [--v3] [--horizon MS] [--latency MS]
         [--output FILE.toml]
 
 A plan, or a state that `terraform show -json` prints, has its queues as aws_sqs_queue, also in child modules. Their
@@ -14,9 +14,9 @@ If a function takes messages from a queue, by an event source mapping or an even
 each call that may run at once. A queue that is subscribed to a topic of SNS gets a producer for it. Each other queue
 that takes no dead letters gets a producer and a consumer, so that the scenario can be run. All are marked SKELETON in a
 comment, because no plan says how many messages come and how long their service takes. Consumers poll for 20 s if the
-file does not say. With --preview the scenario has version 3, in which a function that does not report batch item
-failures fails its whole batch; run it with --preview too. Then also a topic of which two to ten queues of one kind get
-all messages is a queue of its own, with a consumer that forwards each message to all of them.
+file does not say. With --v3 the scenario has version 3, in which a function that does not report batch item failures
+fails its whole batch; run it with --v3 too. Then also a topic of which two to ten queues of one kind get all messages
+is a queue of its own, with a consumer that forwards each message to all of them. --preview is the former name of --v3.
 
 A setting that the file does not have gets a default, marked DEFAULT. Each default, and each thing that the model does
 not have, is also a line on standard error. So is a value that a scenario does not permit; then nothing is written, and
@@ -72,7 +72,7 @@ def queue_from(found: Found, latency: int, called: dict[str, str]) -> Queue:
 
 
 def main(words: Sequence[str]) -> int:
-    parser = Parser(__doc__).take(flags=["--preview"], lists=["--parameter"])
+    parser = Parser(__doc__).take(flags=["--v3"], lists=["--parameter"])
     parser.add_argument("file", metavar="FILE")
     add_options(parser)
     options = parser.parse_args(words)
@@ -81,4 +81,4 @@ def main(words: Sequence[str]) -> int:
     if not found:
         raise Fault(f"{options.file} has no queues")
     queues = [queue_from(queue, options.latency, called) for queue in found.values()]
-    return tell_and_write(with_dead_letters(queues, "resource"), options, source, wiring, options.preview)
+    return tell_and_write(with_dead_letters(queues, "resource"), options, source, wiring, options.v3)

@@ -1,7 +1,7 @@
 """Makes the queues of a scenario from the attributes of real queues:
 
     aws sqs get-queue-attributes --queue-url URL --attribute-names All > orders.json
-    tools/from-queue FILE.json .. [--depth] [--horizon MS] [--latency MS] [--output FILE.toml]
+    tools/from-queue FILE.json .. [--depth] [--v3] [--horizon MS] [--latency MS] [--output FILE.toml]
 
 All queues of an account and region:
 
@@ -20,7 +20,8 @@ hour), and --latency how long a redrive takes (100), both in milliseconds.
 With --depth the rehearsal begins with the messages that are there: producers, each marked DEPTH, send as many as
 ApproximateNumberOfMessages and ApproximateNumberOfMessagesDelayed say. Each sends up to a thousand in the first second;
 of more than 100,000 messages each of 100 producers sends its part, one a millisecond. Their ages are not known, so they
-count as new. Messages in flight are left out.
+count as new. Messages in flight are left out. With --v3 the scenario has version 3, in which one table with
+`copies` stands for producers that send as many messages; run it with --v3 too. --preview is the former name of --v3.
 
 Examples:
 
@@ -69,10 +70,10 @@ def queue_in(path: str, latency: int, has_depth: bool) -> Queue:
 
 
 def main(words: Sequence[str]) -> int:
-    parser = Parser(__doc__).take(flags=["--depth"])
+    parser = Parser(__doc__).take(flags=["--depth", "--v3"])
     parser.add_argument("files", nargs="+", metavar="FILE.json")
     add_options(parser)
     options = parser.parse_args(words)
     check_options(options, options.files)
     queues = [queue_in(path, options.latency, options.depth) for path in options.files]
-    return tell_and_write(with_dead_letters(queues, "file"), options, "their attributes")
+    return tell_and_write(with_dead_letters(queues, "file"), options, "their attributes", is_version_3=options.v3)

@@ -9,7 +9,6 @@ import shlex
 from typing import NamedTuple
 
 from .console import Fault, check_output, make_folder, path_of, print_text, read_bytes, shown, tell
-from .programs import preview_words
 from .results import (WINDOW, Collection, Head, Rows, Share, checksum, checksum_of_scripts, collected, files_in,
                       left_of, name_of, ranges_of, read_result, shares_left, text_at, write_result)
 from .runs import COLUMNS
@@ -52,8 +51,9 @@ def command(sweep: Sweep, share: Share, folder: str, mark: str) -> str:
     words = [path_of("sweep"), os.path.abspath(sweep.path)]
     for kind, setting in (*sweep.settings.given, *window_of(sweep)):
         words += [f"--{kind}", setting]
-    words += [*preview_words(sweep.is_preview), "--program", sweep.program, "--scripts", os.path.abspath(sweep.scripts),
-              "--share", f"{share.number}/{share.of}", "--mark", mark, "--results", os.path.abspath(folder)]
+    words += [*(["--v3"] if sweep.reads_version_3 else []), "--program", sweep.program,
+              "--scripts", os.path.abspath(sweep.scripts), "--share", f"{share.number}/{share.of}", "--mark", mark,
+              "--results", os.path.abspath(folder)]
     for word in words:
         if "\n" in word:
             raise Fault(f"a job is one line, and {shown(word)} has a line end")

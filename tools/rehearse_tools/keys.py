@@ -9,13 +9,14 @@ from .fact_tables import rows_of
 NUMBER, TEXT, TRUTH, TABLES = "a whole number", "a text", "true or false", "a list of tables"
 NUMBERS, QUANTILES = "a list of whole numbers", "a list of pairs [permille, ms]"
 WEIGHTS, STRETCHES = "a list of pairs [group, weight]", "a list of pairs [from, to] in ms"
+STEPS = "a list of pairs [visible, copies]"
 # What may be one or a list.
 TEXT_OR_TEXTS, NUMBER_OR_NUMBERS = "a text or a list of texts", "a whole number or a list of whole numbers"
 REQUIRED = "required"
 STANDARD, FIFO = "standard", "FIFO"
 # The kinds by what the table of keys calls them: a name, a queue's name and a file's name are texts.
 KINDS = {"number": NUMBER, "truth": TRUTH, "tables": TABLES, "numbers": NUMBERS, "quantiles": QUANTILES,
-         "weights": WEIGHTS, "stretches": STRETCHES, "text": TEXT, "name": TEXT, "queue": TEXT, "file": TEXT,
+         "weights": WEIGHTS, "stretches": STRETCHES, "steps": STEPS, "text": TEXT, "name": TEXT, "queue": TEXT, "file": TEXT,
          "queue or queues": TEXT_OR_TEXTS, "number or numbers": NUMBER_OR_NUMBERS}
 # The name of the rows that stand for the keys of a latency.
 LATENCY = "latency"
@@ -72,9 +73,9 @@ ACTORS = {kind: [*HEAD, *keys_in(kind)] for kind in HEAD[1].words or ()}
 SCRIPT, PRODUCER, CONSUMER, SCALER = (ACTORS[kind] for kind in ("script", "producer", "consumer", "scaler"))
 # What each item of a list of numbers may be.
 ITEMS = {row["name"]: (int(low), int(high)) for row in ROWS if row["items"] for low, high in [row["items"].split()]}
-# The versions that are read, and the one that is read only for the word --preview.
+# The versions that are read, and the one that is read only for the word --v3.
 VERSIONS = (1, 2, 3)
-PREVIEW = 3
+VERSION_3 = 3
 
 
 def consumer_keys(latencies: Sequence[Key]) -> list[Key]:
@@ -104,5 +105,5 @@ def as_of(key: Key, version: int) -> Key:
     """A key as a version has it: a queue that may be a list of them is a text before version 3."""
     if key == HEAD[1]:
         return key._replace(words=tuple(kinds_of(version)))
-    is_text = key.kind == TEXT_OR_TEXTS and version < PREVIEW
+    is_text = key.kind == TEXT_OR_TEXTS and version < VERSION_3
     return key._replace(kind=TEXT, low=None, high=None) if is_text else key

@@ -35,7 +35,7 @@ from .console import Fault, Parser
 from .logs import Final, Head, Log, Row, Rows, Take, What, message_of_receipt, tell_open
 from .origins import Forwards, Origins, origin_of
 from .replay import ENTERS, LEAVES, Checked, checked, faults_told, handlers_of, ignored, is_forward, replay
-from .units import clock, duration as rounded, several
+from .units import clock, decimal, duration as rounded, several
 
 ID = re.compile(r"[mo]-(0|[1-9][0-9]*)-(0|[1-9][0-9]*)")
 MOST = 10_000
@@ -55,7 +55,7 @@ def duration(milliseconds: int) -> str:
     if milliseconds < 1_000:
         return f"{milliseconds} ms"
     if milliseconds < 60_000:
-        return f"{milliseconds / 1_000:.3f}".rstrip("0").rstrip(".") + " s"
+        return f"{decimal(milliseconds / 1_000)} s"
     return clock(milliseconds)
 
 

@@ -43,9 +43,10 @@ def text_of_service(consumer: Mapping[str, Any]) -> str:
 
 
 def rate_of(actor: Mapping[str, Any], folder: str) -> float:
-    """How many messages an actor sends in a millisecond, from its first to its last; of a single one that is none."""
+    """How many messages an actor and its copies send in a millisecond, from the first to the last of each; of a single
+    one that is none."""
     if actor["kind"] == "producer":
-        return 1 / mean_time(actor, "gap") if actor["count"] > 1 else 0
+        return int(actor.get("copies", 1)) / mean_time(actor, "gap") if actor["count"] > 1 else 0
     if actor["kind"] != "script":
         return 0
     text = actor["calls"] if "calls" in actor else read_text(os.path.join(folder, actor["script"]))

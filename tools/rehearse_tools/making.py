@@ -7,7 +7,7 @@ from collections.abc import Iterable, Sequence
 
 from .actors import Actors, Wiring, plain, topics_in
 from .console import Fault, Parser, check_output, note, write_text
-from .keys import PREVIEW
+from .keys import VERSION_3
 from .queues import Queue
 
 QUEUES_MOST = 1_000
@@ -20,7 +20,7 @@ version = {version}
 horizon = {horizon} # DEFAULT: how long to rehearse, in milliseconds.
 """
 NO_ACTORS = "# To rehearse them, add actors that send and receive."
-PREVIEW_TEXT = "# Version 3 is a preview: run this with --preview.\n"
+VERSION_3_TEXT = "# This has version 3 of scenarios: run it with --v3.\n"
 SKELETONS = "# Each SKELETON marks actors that were made up: give them the rates and times of your own."
 
 
@@ -39,11 +39,11 @@ def with_two_latencies(queue: Queue) -> None:
 
 
 def scenario_text(queues: Sequence[Queue], source: str, horizon: int, notes: Sequence[str], actors: str,
-                  is_preview: bool) -> str:
+                  is_version_3: bool) -> str:
     """The text of a scenario; `notes` are of no queue, and `actors` is the text of the actors."""
     title = SKELETONS if "# SKELETON" in actors else NO_ACTORS
-    text = HEAD.format(source=source, actors=(PREVIEW_TEXT if is_preview else "") + title, horizon=horizon,
-                       version=PREVIEW if is_preview else 1)
+    text = HEAD.format(source=source, actors=(VERSION_3_TEXT if is_version_3 else "") + title, horizon=horizon,
+                       version=VERSION_3 if is_version_3 else 1)
     for queue in queues:
         text += "\n".join(["", "[[queue]]", *queue.lines, *(f"# {note}." for note in queue.notes)]) + "\n"
     return text + ("\n" if notes else "") + "".join(f"# {note}.\n" for note in notes) + actors
@@ -61,13 +61,13 @@ def check_options(options: Namespace, inputs: Iterable[str]) -> None:
 
 
 def tell_and_write(queues: list[Queue], options: Namespace, source: str, wiring: Wiring | None = None,
-                   is_preview: bool = False) -> int:
+                   is_version_3: bool = False) -> int:
     """Prints the notes on all queues and writes the scenario, or prints the faults; returns the status.
 
-    With `wiring` it has actors; with --depth those that send what is there in the beginning. With `is_preview` it has
+    With `wiring` it has actors; with --depth those that send what is there in the beginning. With `is_version_3` it has
     version 3, in which a topic of several queues is a queue of its own.
     """
-    topics = topics_in(wiring, queues, options.latency) if wiring and is_preview else []
+    topics = topics_in(wiring, queues, options.latency) if wiring and is_version_3 else []
     queues = [*queues, *(topic.queue for topic in topics)]
     if len(queues) > QUEUES_MOST:
         raise Fault(f"{len(queues)} queues are too many: a scenario has at most {QUEUES_MOST}")
@@ -76,9 +76,9 @@ def tell_and_write(queues: list[Queue], options: Namespace, source: str, wiring:
         for line in faults:
             note(line)
         return 2
-    for queue in queues if is_preview else ():
+    for queue in queues if is_version_3 else ():
         with_two_latencies(queue)
-    actors = Actors(queues, options.horizon, is_preview, topics)
+    actors = Actors(queues, options.horizon, is_version_3, topics)
     for queue in queues:
         for attribute, count in queue.present.items():
             actors.depth(queue, attribute, count)
@@ -89,5 +89,5 @@ def tell_and_write(queues: list[Queue], options: Namespace, source: str, wiring:
     for line in [*(f"{queue.name}: {text}" for queue in queues for text in queue.notes), *notes,
                  *(f"{place}: {text}" for place, text in actors.notes)]:
         note(line)
-    write_text(options.output, scenario_text(queues, source, options.horizon, notes, actors.text, is_preview))
+    write_text(options.output, scenario_text(queues, source, options.horizon, notes, actors.text, is_version_3))
     return 0

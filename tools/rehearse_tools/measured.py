@@ -9,7 +9,7 @@ from typing import Any
 from .arrivals import check_status, moment, moments_of
 from .console import Fault, note, shown
 from .queues import json_in, read_any
-from .units import clock, several
+from .units import clock, decimal, several
 
 SECOND = 1_000
 # The statistics that are taken of what get-metric-statistics printed, the first one that is there.
@@ -99,13 +99,9 @@ def differences_of(metrics: Any, names: list[str], kinds: tuple[str, ...], serie
                 yield Difference(queue, kind, period, rehearsed[queue][period][kinds.index(kind)], value)
 
 
-def number_text(value: float) -> str:
-    return f"{value:.3f}".rstrip("0").rstrip(".") if value % 1 else f"{value:.0f}"
-
-
 def csv_of(differences: list[Difference], period: int) -> str:
-    rows = [f"{one.period * period // SECOND},{one.queue},{one.metric},{one.rehearsed},{number_text(one.measured)},"
-            f"{number_text(one.rehearsed - one.measured)}\n" for one in differences]
+    rows = [f"{one.period * period // SECOND},{one.queue},{one.metric},{one.rehearsed},{decimal(one.measured)},"
+            f"{decimal(one.rehearsed - one.measured)}\n" for one in differences]
     return "second,queue,metric,rehearsed,measured,difference\n" + "".join(rows)
 
 
@@ -121,6 +117,6 @@ def sums_of(differences: list[Difference], period: int) -> Iterator[str]:
         apart = [abs(one.rehearsed - one.measured) for one in found]
         worst = found[apart.index(max(apart))]
         share = f" ({100 * (rehearsed - measured) / measured:+.0f} %)" if measured else ""
-        yield (f"{queue} {metric}: {several(count, 'period')}, mean {number_text(rehearsed)} "
-               f"rehearsed, {number_text(measured)} measured{share}; {number_text(sum(apart) / count)} apart on "
-               f"average, at most {number_text(max(apart))} at {clock(worst.period * period)}")
+        yield (f"{queue} {metric}: {several(count, 'period')}, mean {decimal(rehearsed)} "
+               f"rehearsed, {decimal(measured)} measured{share}; {decimal(sum(apart) / count)} apart on "
+               f"average, at most {decimal(max(apart))} at {clock(worst.period * period)}")

@@ -23,7 +23,7 @@ from typing import Any, NamedTuple, Union
 from . import sweep as tool
 from .console import ENDING, Fault, library
 from .logs import FINAL_HEADER, HEADERS, LOG_HEADER, Log, tell_open
-from .programs import preview_words, program_of
+from .programs import program_of, version_words
 from .runs import first_line
 from .scenarios import Setting, scenario_at, text_of_value, varied, written
 from .starting import ran, temporary_folder
@@ -67,11 +67,12 @@ class Swept(NamedTuple):
 
 
 def rehearse(scenario: str, settings: Mapping[str, Value] | None = None, scripts: str = ".",
-             program: str | None = None, as_lists: bool = False, preview: bool = False) -> Rehearsal:
+             program: str | None = None, as_lists: bool = False, v3: bool = False,
+             preview: bool = False) -> Rehearsal:
     """Runs a scenario with some settings, as {"seed": 7, "queue.orders.visibility_s": 60}; `scripts`, `program` and
-    `preview` are as for tools/sweep."""
+    `v3` are as for tools/sweep. `preview` is the former name of `v3`."""
     check_tables(as_lists)
-    command = [program_of(program), "run", *preview_words(preview), "--scripts", scripts]
+    command = [program_of(program), "run", *version_words(v3 or preview), "--scripts", scripts]
     with file_of(scenario) as path, tempfile.TemporaryFile() as out:
         words = {Setting(name): word_of(value) for name, value in (settings or {}).items()}
         text = written(varied(scenario_at(path), words))
@@ -101,19 +102,20 @@ def summary(paths: str | Sequence[str], first: str | None = None, last: str | No
     return values if as_lists else pandas().DataFrame(values)
 
 
-def sweep(scenario: str, vary: Mapping[str, str | Iterable[Value]], as_lists: bool = False, preview: bool = False,
-          **options: Words) -> Swept:
+def sweep(scenario: str, vary: Mapping[str, str | Iterable[Value]], as_lists: bool = False, v3: bool = False,
+          preview: bool = False, **options: Words) -> Swept:
     """Runs a scenario with settings varied, as {"queue.jobs.visibility_s": [2, 5], "seed": range(1, 21)}; a text is
     taken as tools/sweep has it, as "1..20".
 
     The options are those of tools/sweep, by the names of OPTIONS: what may be given several times is a list, and
-    `columns` a list of names; `preview` lets scenarios have version 3. Standard error reports what is settled over
-    runs, and what fails.
+    `columns` a list of names; `v3`, or its former name `preview`, lets scenarios have version 3. Standard error reports
+    what is settled over runs, and what fails.
     """
     check_tables(as_lists)
     with file_of(scenario) as path, temporary_folder() as folder:
         output = os.path.join(folder, "rows.csv")
-        words = [*preview_words(preview), *(f"--vary={name}={values_word(values)}" for name, values in vary.items())]
+        words = [*(["--v3"] if v3 or preview else []),
+                 *(f"--vary={name}={values_word(values)}" for name, values in vary.items())]
         with called_as("sweep"):
             status = tool.main([path, *words, *option_words(options), f"--output={output}"])
         if status == INTERRUPTED:

@@ -63,12 +63,13 @@ def program_itself(given: str | None) -> str:
     return found
 
 
-def preview_words(is_preview: bool) -> list[str]:
-    """The program's word for version 3, if that is asked for."""
-    return ["--preview"] if is_preview else []
+def version_words(reads_version_3: bool) -> list[str]:
+    """The program's word for version 3, if that is asked for. It is the former name of --v3, since --program may name a
+    program that was built before it had --v3; each one that reads version 3 knows --preview."""
+    return ["--preview"] if reads_version_3 else []
 
 
 def reading_words(options: Namespace) -> list[str]:
-    """The program's options of how a scenario is read, from those of a tool: --scripts, and --preview if it is given.
-    """
-    return [*preview_words(options.preview), "--scripts", options.scripts]
+    """The program's options of how a scenario is read, from those of a tool: --scripts, and that for version 3 if --v3
+    is given."""
+    return [*version_words(options.v3), "--scripts", options.scripts]

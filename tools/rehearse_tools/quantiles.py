@@ -11,9 +11,10 @@ until it has that mean. No time is over --max MS.
 
 It prints the line `service = [[0, MS], .., [1000, MS]]` of a scenario, and with --key gap that of a producer's gap.
 Between two pairs the program spreads times evenly, so pairs are closer together where times grow faster. There are at
-most --pairs N of them (32, and 8 at least). The last time is the one that gives the table the right mean. The lines
-behind it are comments, so that all of it may stand in a scenario: where the times come from, their mean, the mean of
-the table, and how many percent that is wrong.
+most --pairs N of them (32, and 8 at least). The last time is the one that gives the table the right mean. If the mean
+square is then wrong by more than a percent, the times of more than 90 % are lowered or raised until it is right, as far
+as a quarter. The lines behind the table are comments, so that all of it may stand in a scenario. They say where the
+times come from, their mean and standard deviation, those of the table, and how many percent these are wrong.
 
 Examples:
 
@@ -27,6 +28,7 @@ import functools
 import itertools
 import math
 import re
+import statistics
 from argparse import Namespace
 from collections.abc import Sequence
 from fractions import Fraction
@@ -42,9 +44,11 @@ PAIRS_LEAST, PAIRS_MOST = 8, 32
 QUANTILE = re.compile(r"--p([0-9]{1,2}(?:\.[0-9]{1,6})?)(?:=.*)?")
 # The permilles that each table has.
 KEPT = (0, 999, PERMILLES)
-# The share of the root mean square of times up to which a table may be off below the last pair but one, and of the
-# mean up to which it may be off in all.
-CLOSE, CLOSE_MEAN = 0.003, 0.005
+# The share of the root mean square of times up to which a table may be off below the last pair but one. Then those of
+# the mean and of the mean square up to which it may be off in all: by these two goes the mean wait in a queue.
+CLOSE, CLOSE_MEAN, CLOSE_SQUARE = 0.003, 0.005, 0.01
+# The permille behind which the tail begins, and the shares by which it may be drawn in; less than 0 is out.
+TAIL, SHARES = 900, (-0.25, 0.25)
 NORMAL = NormalDist()
 # No part of a law counts that lies so many deviations from its median; and how long a step of a sum over it is.
 FARTHEST, STEP = 8, 0.01
@@ -63,13 +67,22 @@ def mean_of(pairs: Pairs) -> float:
     return sum((end - start) * drawn(low, high) for (start, low), (end, high) in zip(pairs, pairs[1:])) / PERMILLES
 
 
+def variance_of(pairs: Pairs) -> float:
+    """Their variance, which is the square of their standard deviation."""
+    mean = mean_of(pairs)
+    # whole times from the first one on, as many as the second one is later, have the variance of so many numbers
+    return sum((end - start) * ((drawn(low, high) - mean) ** 2 + (max(high - low, 1) ** 2 - 1) / 12)
+               for (start, low), (end, high) in zip(pairs, pairs[1:])) / PERMILLES
+
+
 class Times(NamedTuple):
-    """Times by their quantiles at each permille, and the parts of their mean below each permille. As a table's times
-    are rounded down, equal times count as spread over the next millisecond in `quantiles`. At the permilles `given` a
-    table has just these quantiles; `most` is its greatest time."""
+    """Times by their quantiles at each permille, the parts of their mean below each permille, and their variance. As a
+    table's times are rounded down, equal times count as spread over the next millisecond in `quantiles`. At the
+    permilles `given` a table has just these quantiles; `most` is its greatest time."""
 
     quantiles: Sequence[float]
     sums: Sequence[float]
+    variance: float
     given: Sequence[int]
     most: int
 
@@ -112,7 +125,7 @@ def of_file(times: Sequence[float]) -> Times:
         return time + (count * permille / PERMILLES - first) / (last - first)
 
     permilles = range(PERMILLES + 1)
-    return Times([*map(quantile, permilles)], [*map(sum_below, permilles)], (), MOST)
+    return Times([*map(quantile, permilles)], [*map(sum_below, permilles)], statistics.pvariance(times), (), MOST)
 
 
 # Times of a law.
@@ -186,10 +199,12 @@ def law_of(quantiles: dict[str, float], mean: float | None, most: int) -> Law:
 
 def of_law(law: Law, quantiles: dict[str, float]) -> Times:
     sums = [sum(weight * law.time(normal) for normal, weight in part) for part in parts()]
+    mean = sum(sums)
+    variance = sum(weight * (law.time(normal) - mean) ** 2 for part in parts() for normal, weight in part)
     normals = [-FARTHEST, *(NORMAL.inv_cdf(permille / PERMILLES) for permille in range(1, PERMILLES)), FARTHEST]
     permilles = [Fraction(number) * 10 for number in quantiles]
     given = [int(permille) for permille in permilles if permille.denominator == 1]
-    return Times([law.time(it) + 0.5 for it in normals], [0.0, *itertools.accumulate(sums)], given, law.most)
+    return Times([law.time(it) + 0.5 for it in normals], [0.0, *itertools.accumulate(sums)], variance, given, law.most)
 
 
 def named(quantiles: dict[str, float]) -> str:
@@ -253,23 +268,74 @@ def table_of(times: Times, count: int) -> list[list[int]]:
                    key=lambda high: abs(wanted - width * drawn(low, high)))
         pairs.append([end, high])
         done += width * drawn(low, high)
-    pairs = ended(pairs, times)
+    pairs = nearest(pairs, times)
     return [pairs[0], *(pair for before, pair, after in zip(pairs, pairs[1:], pairs[2:])
                         if not before[1] == pair[1] == after[1]), pairs[-1]]
+
+
+def mean_off(table: Pairs, times: Times) -> float:
+    """By which share the mean of a table is off, to either side."""
+    return abs(mean_of(table) / times.mean() - 1)
+
+
+def square_off(table: Pairs, times: Times) -> float:
+    """By which share its mean square is off, to either side."""
+    return abs((variance_of(table) + mean_of(table) ** 2) / (times.variance + times.mean() ** 2) - 1)
+
+
+def nearest(pairs: list[list[int]], times: Times) -> list[list[int]]:
+    """A table with its last pair, of the right mean and mean square. If it would be too narrow, its tail is drawn in,
+    and its last time is greater; if it would be too wide, the other way round."""
+    low, high = SHARES
+    for _ in range(30):
+        share = (low + high) / 2
+        tail = drawn_in(pairs, share, times)
+        last = last_of(tail, times)
+        is_narrow = last < tail[-1][1] or variance_of([*tail, [PERMILLES, last]]) < times.variance
+        low, high = (share, high) if is_narrow else (low, share)
+    first = ended(pairs, times)
+    others = [ended(drawn_in(pairs, share, times), times) for share in (low, high)]
+    tables = [first, *(it for it in others if mean_off(it, times) <= max(mean_off(first, times), CLOSE_MEAN))]
+
+    def rank(table: list[list[int]]) -> tuple[float, bool, float]:
+        off = square_off(table, times)
+        return max(off, CLOSE_SQUARE), table is not first, off
+
+    return min(tables, key=rank)
+
+
+def drawn_in(pairs: list[list[int]], share: float, times: Times) -> list[list[int]]:
+    """Pairs of which each in the tail is by a share nearer to the last one before it that stays. That is one that is
+    given, or the last one below the tail."""
+    found: list[list[int]] = []
+    kept = pairs[0][1]
+    for permille, time in pairs:
+        if permille <= TAIL or permille in times.given:
+            kept = time
+        else:
+            time = min(round(time - share * (time - kept)), times.most)
+        found.append([permille, time])
+    for pair, after in zip(found[-2::-1], found[:0:-1]):
+        pair[1] = min(pair[1], after[1])
+    return found
+
+
+def last_of(pairs: list[list[int]], times: Times) -> int:
+    """The last time with which these pairs have the right mean; it may be less than the one before it."""
+    return round(2 * (times.mean() - mean_of(pairs)) * PERMILLES - pairs[-1][1] + 1)
 
 
 def ended(pairs: list[list[int]], times: Times) -> list[list[int]]:
     """A table with its last pair, whose time makes the mean right: if this is close enough, one that no time is over.
     If the mean is too great before it, the last two times are those that make it right."""
     (start, before), (end, low) = pairs[-2:]
-    rest = (times.mean() - mean_of(pairs)) * PERMILLES
-    last = min(max(round(2 * rest - low + 1), low), times.most)
-    part = (end - start) / 2
+    last = min(max(last_of(pairs, times), low), times.most)
+    rest, part = (times.mean() - mean_of(pairs)) * PERMILLES, (end - start) / 2
     both = round((rest + 2 * part * drawn(before, low) - (before - 1) * part) / (part + 1))
     both = min(max(both, before), times.most)
     tables = ([*pairs, [PERMILLES, min(last, max(low, int(times.quantiles[-1])))]], [*pairs, [PERMILLES, last]],
               [*pairs[:-1], [end, both], [PERMILLES, both]])
-    return min(tables, key=lambda table: max(abs(mean_of(table) / times.mean() - 1), CLOSE_MEAN))
+    return min(tables, key=lambda table: max(mean_off(table, times), CLOSE_MEAN))
 
 
 # The command.
@@ -307,15 +373,29 @@ def of_options(options: Namespace, quantiles: dict[str, float]) -> tuple[Times, 
     return of_law(law, quantiles), text + (f", none over {most:.15g}" if most else "")
 
 
+def comments_of(pairs: Pairs, times: Times, count: int) -> list[str]:
+    """The comments on the numbers of the times and of their table."""
+    no_nearer = f"# No nearer: {count} pairs of whole permilles, with times up to {times.most:,} ms, do not have this"
+    lines = [*compared("Mean", times.mean(), mean_of(pairs))]
+    if round(100 * mean_off(pairs, times), 2) > 1:
+        lines.append(f"{no_nearer} mean.")
+    lines += compared("Standard deviation", math.sqrt(times.variance), math.sqrt(variance_of(pairs)))
+    if square_off(pairs, times) > 2 * CLOSE_SQUARE:
+        lines.append(f"{no_nearer} deviation, but with a tail that is far off.")
+    return lines
+
+
+def compared(what: str, of_times: float, of_table: float) -> list[str]:
+    lines = [f"# {what} of the times: {of_times:,.2f} ms", f"# {what} of the table: {of_table:,.2f} ms"]
+    return [*lines, f"# Error: {round(100 * (of_table / of_times - 1), 2) + 0.0:+.2f} %"] if of_times else lines
+
+
 def main(words: Sequence[str]) -> int:
     options, quantiles = options_of(words)
     if not max(PAIRS_LEAST, len(quantiles) + len(KEPT)) <= options.pairs <= PAIRS_MOST:
         raise Fault(f"--pairs is {PAIRS_LEAST} to {PAIRS_MOST}, and 3 more than the quantiles that are given")
     times, source = of_options(options, quantiles)
     pairs = table_of(times, options.pairs)
-    off = round(100 * (mean_of(pairs) / times.mean() - 1), 2) + 0.0
-    left = f"# No nearer: {options.pairs} pairs of whole permilles, with times up to {times.most:,} ms, do not have " \
-        "this mean.\n" if abs(off) > 1 else ""
-    print_text(f"{options.key} = {text_of_value(pairs)}\n# Times: {source}\n# Mean of the times: {times.mean():,.2f} ms"
-               f"\n# Mean of the table: {mean_of(pairs):,.2f} ms\n# Error: {off:+.2f} %\n{left}")
+    print_text("\n".join([f"{options.key} = {text_of_value(pairs)}", f"# Times: {source}",
+                          *comments_of(pairs, times, options.pairs), ""]))
     return 0

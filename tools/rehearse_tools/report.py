@@ -1,7 +1,7 @@
 """Runs a scenario and reports it in one HTML file, which opens in a browser without a network:
 
     tools/report SCENARIO --output FILE.html [--require 'orders.age_p95<60s' ..] [--queue NAME ..]
-        [--title TEXT] [--from TIME] [--to TIME] [--preview] [--scripts DIR] [--program P]
+        [--title TEXT] [--from TIME] [--to TIME] [--v3] [--scripts DIR] [--program P]
 
 The page has the requirements and whether they hold, a table of all queues, pictures over time that can be zoomed with
 the mouse, all numbers of each queue, the settings with their seed, and the command that made it. Its head has the
@@ -9,9 +9,10 @@ version, the date, which is that of SOURCE_DATE_EPOCH if the environment has it,
 scripts. --require is as for tools/sweep: a column of the report of a queue, a comparison and a number; one
 that fails or is undecided has a line on standard error. Without --queue the 20 queues with the most rows are shown.
 --from counts the run from this time on, such as 90s or 1.5h, so that a warm-up is left out, and --to ends it. --title
-is the title of the page, --scripts the folder of the scenario's scripts, and --preview the word for version 3, as for
-the program. The program is that of --program, else of SQS_REHEARSE of the environment, else sqs_rehearse beside this
-folder. The status is 0, 1 if a requirement does not hold or the program refuses the scenario, 2 for a fault.
+is the title of the page, and --scripts the folder of the scenario's scripts. --v3 reads version 3 of scenarios too, as
+`run --v3` does; --preview is its former name. The program is that of --program, else of SQS_REHEARSE of the
+environment, else sqs_rehearse beside this folder. The status is 0, 1 if a requirement does not hold or the program
+refuses the scenario, 2 for a fault.
 
 Examples:
 
@@ -25,7 +26,6 @@ import base64
 import datetime
 import functools
 import gzip
-import hashlib
 import json
 import os
 import shlex
@@ -47,6 +47,7 @@ from .overview import COLUMNS as OVERVIEW
 from .overview import cells_of
 from .programs import TOP, program_of, reading_words
 from .requirements import Failure, Requirement
+from .results import checksum
 from .runs import COLUMNS, Ages, Counting, Extra, extra_of, reported
 from .scenarios import consumers_of, names_of, parsed, scripts_in, ways_of, written
 from .starting import ran
@@ -65,59 +66,8 @@ PACKING = 6
 HEIGHT_OF_SHARE, GAP, MARGINS = 62, 0.5, 110
 # The keys at the top of a scenario, with the defaults of those that need not be given.
 TOP_KEYS = {"version": "not given", "horizon": "not given", "seed": "0, the default", "sample": "0, the default"}
-PAGE = """<!DOCTYPE html>
-<html lang="en">
-<head>
-<meta charset="utf-8">
-<meta name="viewport" content="width=device-width, initial-scale=1">
-<title>{title}</title>
-<style>
-body {{ font: 15px/1.5 Helvetica, Arial, sans-serif; color: #222; }}
-body {{ max-width: 1100px; margin: 24px auto; padding: 0 16px; }}
-p {{ overflow-wrap: anywhere; }}
-table {{ border-collapse: collapse; }}
-td, th {{ padding: 2px 16px 2px 0; text-align: left; vertical-align: top; }}
-td.number, table.queues td + td, table.queues th + th {{ text-align: right; }}
-table.queues {{ display: block; overflow-x: auto; }}
-table.queues td, table.queues th {{ white-space: nowrap; }}
-.holds {{ color: #00694a; }}
-.fails {{ color: #b00020; font-weight: bold; }}
-pre, code {{ background: #f4f4f4; padding: 2px 6px; overflow-x: auto; white-space: pre-wrap; overflow-wrap: anywhere; }}
-@media (max-width: 700px) {{ table {{ font-size: 13px; }} td, th {{ padding-right: 8px; }} }}
-</style>
-<script>
-const packed = "{library}";
-const isLibraryThere = (async () => {{
-  const bytes = Uint8Array.from(atob(packed), letter => letter.charCodeAt(0));
-  const stream = new Blob([bytes]).stream().pipeThrough(new DecompressionStream("gzip"));
-  const script = document.createElement("script");
-  script.textContent = await new Response(stream).text();
-  document.head.append(script);
-}})();
-function draw(id, traces, layout, options) {{
-  // on a narrow page the buttons would cover the names of the lines; a double click shows all again
-  if (innerWidth < 700) {{
-    layout.margin.l = 60;
-    options.displayModeBar = false;
-  }}
-  isLibraryThere.then(() => Plotly.newPlot(id, traces, layout, options), () => {{
-    document.getElementById(id).textContent = "This browser is too old to show the picture.";
-  }});
-}}
-</script>
-</head>
-<body>
-<h1>{title}</h1>
-<p>{intro}</p>
-<p>{origin}</p>
-{body}
-<h2>Settings</h2>
-<table>{settings}</table>
-<details><summary>The whole scenario</summary><pre>{scenario}</pre></details>
-<p>Made by <code>{command}</code></p>
-</body>
-</html>
-"""
+# The page, with the places for what is put in.
+PAGE = os.path.join(os.path.dirname(os.path.abspath(__file__)), "report.html")
 
 
 class Judged(NamedTuple):
@@ -207,10 +157,6 @@ def section_of(number: int) -> str:
 def dead_letters_of(scenario: dict[str, Any]) -> set[str]:
     """The queues of a scenario that take dead letters of others."""
     return {queue["dead_letter"] for queue in scenario.get("queue", []) if "dead_letter" in queue}
-
-
-def checksum(data: bytes) -> str:
-    return hashlib.sha256(data).hexdigest()
 
 
 def origin_of(text: str, scenario: dict[str, Any], folder: str) -> str:
@@ -413,7 +359,7 @@ def page(options: Namespace, words: Sequence[str], text: str, path: str) -> tupl
     ends = "".join(f", {word} {duration(at)}" for word, at in (("counted from", options.first),
                                                                ("ended at", options.last)) if at is not None)
     intro = f"{os.path.basename(options.scenario)}, seed {scenario.get('seed', 0)}: {told}{ends}."
-    return PAGE.format(
+    return read_text(PAGE).format(
         title=escape(options.title or f"Rehearsal of {os.path.basename(options.scenario)}"), intro=escape(intro),
         origin=escape(origin_of(text, scenario, options.scripts)),
         library=library_packed(), body=body, settings=settings_html(scenario), scenario=escape(text),
@@ -421,7 +367,7 @@ def page(options: Namespace, words: Sequence[str], text: str, path: str) -> tupl
 
 
 def options_of(words: Sequence[str]) -> Namespace:
-    parser = Parser(__doc__).take("--from", "--to", "--title", "--scripts", "--program", flags=["--preview"],
+    parser = Parser(__doc__).take("--from", "--to", "--title", "--scripts", "--program", flags=["--v3"],
                                   lists=["--require", "--queue"])
     parser.add_argument("scenario", metavar="SCENARIO")
     parser.add_argument("--output", required=True)

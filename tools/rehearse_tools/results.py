@@ -30,7 +30,7 @@ import re
 from collections.abc import Iterable, Mapping, Sequence
 from typing import NamedTuple
 
-from .console import Fault, read_bytes, shown, write_text
+from .console import Fault, csv_text, read_bytes, shown, write_text
 
 FORMAT = ["sweep", "1"]
 SHARE = re.compile("([1-9][0-9]{0,6})/([1-9][0-9]{0,6})")
@@ -116,12 +116,6 @@ def checksum(data: str | bytes) -> str:
 def checksum_of_scripts(scripts: Mapping[str, bytes]) -> str:
     """One checksum of files by their names, in whatever order they are given."""
     return checksum("".join(f"{checksum(name)} {checksum(scripts[name])}\n" for name in sorted(scripts)))
-
-
-def csv_text(records: Iterable[Sequence[str]]) -> str:
-    stream = io.StringIO()
-    csv.writer(stream, lineterminator="\n").writerows(records)
-    return stream.getvalue()
 
 
 def share_of(text: str) -> Share:

@@ -11,6 +11,7 @@ from .console import Fault, shown
 from .doors import Doors, Left
 from .logs import NAME, NUMBER, PLACES, REFUSALS, Head, Log, What, check_number
 from .replay import BadRow, Replay, copies_in, handlers_of, is_forward, replay
+from .statistics import at_rank, rank_of
 from .units import duration, several
 
 ACTIONS = {"send": "SendMessage", "receive": "ReceiveMessage", "delete": "DeleteMessage",
@@ -64,12 +65,7 @@ def leading(age: int) -> int:
 
 def nearest_rank(ages: Mapping[int, int], percent: int) -> int | None:
     """The nearest rank among ages, of which it is known how many there are; None if there are none."""
-    place = (sum(ages.values()) * percent + 99) // 100
-    for age in sorted(ages):
-        place -= ages[age]
-        if place <= 0:
-            return age
-    return None
+    return at_rank(ages, rank_of(sum(ages.values()), percent / 100)) if ages else None
 
 
 class Queue:

@@ -4,7 +4,7 @@
         [--require 'orders.age_p95<60s in 95%' ..] [--columns NAMES] [--table] [--output FILE]
         [--against queue.orders.visibility_s=5 | --against OTHER] [--until 5% | --until decided] [--most N]
         [--junit FILE.xml]
-        [--from TIME] [--to TIME] [--settling FILE.svg] [--window TIME] [--price N] [--preview] [--program P]
+        [--from TIME] [--to TIME] [--settling FILE.svg] [--window TIME] [--price N] [--v3] [--program P]
         [--scripts DIR] [--jobs N] [--cluster tcp://HOST:8786]
     tools/sweep SCENARIO --least count.worker=1..64 --vary seed=1..200 --spread seed
         --require 'orders.age_p95<60s in 95%'
@@ -65,7 +65,7 @@
           depth_max_at_ms, in_flight_max, in_flight_max_at_ms, received_again, tries_max, busy: as docs/STATISTICS.md
             has them
 --table   prints a table for people in place of CSV, without columns, and rows of queues, that have no number
---preview reads version 3 of scenarios too, as `run --preview` does
+--v3      reads version 3 of scenarios too, as `run --v3` does; --preview is its former name
 --program the program; without it SQS_REHEARSE of the environment, else sqs_rehearse beside this folder
 --scripts the folder of the scenario's scripts, as for the program
 --jobs    how many runs at once; without it one for each processor
@@ -104,7 +104,7 @@ import re
 from collections.abc import Callable, Iterable, Iterator, Sequence
 
 from .clusters import PROGRAM, SCRIPTS, Cluster
-from .console import (Fault, Parser, check_library, check_output, print_text, shown, tell, write_bytes,
+from .console import (Fault, Parser, check_library, check_output, csv_text, print_text, shown, tell, write_bytes,
                       write_text)
 from .decisions import Requirements
 from .drawing import FORMATS, bytes_of
@@ -118,7 +118,7 @@ from .scenarios import names_of
 from .searches import Groups, check_ascending, least, until
 from .starting import temporary_folder
 from .settling import advise, looked_at, picture_of
-from .tables import Table, against, csv_text, folded, selected, table_text
+from .tables import Table, against, folded, selected, table_text
 from .units import moment_of, window_of
 from .variants import Given, Settings, Sweep, Told, Window
 
@@ -151,7 +151,7 @@ def options_of(words: Sequence[str]) -> argparse.Namespace:
     parser = Parser(__doc__).take(
         "--junit", "--spread", "--against", "--until", "--least", "--from", "--to", "--settling", "--window",
         "--columns", "--program", "--scripts", "--cluster", "--output", "--print-jobs", "--share", "--results",
-        "--mark", "--collect", flags=["--table", "--preview", "--rest", "--print-scenario"], lists=["--require"],
+        "--mark", "--collect", flags=["--table", "--v3", "--rest", "--print-scenario"], lists=["--require"],
         numbers={"--most": None, "--jobs": None, "--shares": None})
     parser.add_argument("scenario", nargs="?", metavar="SCENARIO")
     parser.add_argument("--vary", action="append", default=[], type=given("vary"))
@@ -166,7 +166,7 @@ def options_of(words: Sequence[str]) -> argparse.Namespace:
 def check_mode(options: argparse.Namespace) -> None:
     """Makes sure that what is asked for is one thing."""
     if options.collect and (options.scenario or options.vary or options.least or options.until
-                            or options.first or options.last or options.preview
+                            or options.first or options.last or options.v3
                             or any(getattr(options, mode) for mode in MODES[:-1])):
         raise Fault("--collect reads what was run, and takes no SCENARIO, --vary, --print-jobs or --print-scenario")
     if not options.collect and not (options.scenario and (options.vary or options.require or options.columns)):
@@ -426,7 +426,7 @@ def main(words: Sequence[str]) -> int:
         return main_of_collect(options, requirements)
     searched = [Given("vary", options.least)] if options.least else []
     window = Window(*window_of(options.first, options.last))
-    sweep = Sweep(options.scenario, Settings([*searched, *options.vary]), options.scripts, window, options.preview)
+    sweep = Sweep(options.scenario, Settings([*searched, *options.vary]), options.scripts, window, options.v3)
     check_window(sweep)
     if options.print_scenario:
         print_scenario(sweep, options.output)

@@ -4,8 +4,6 @@ The tools import it; it is not a command.
 """
 from __future__ import annotations
 
-import csv
-import io
 import itertools
 import re
 import statistics
@@ -15,7 +13,7 @@ from typing import NamedTuple
 from .requirements import AGES, folded_as, interval_of_mean
 from .runs import ALL_COLUMNS, columns_in
 from .statistics import Difference, Interval, half_width, holm, paired, percentile_interval
-from .units import number_of
+from .units import decimal, number_of
 
 # What a table for people leaves out of what is shown of a column.
 NOT_IN_TABLES = ("median_low", "median_high", "less", "adjusted")
@@ -36,10 +34,6 @@ class Table(NamedTuple):
     def settings(self) -> list[str]:
         """The varied settings, which come before `failed`."""
         return self.header[:self.header.index("failed")]
-
-
-def decimal(value: float) -> str:
-    return f"{value:.3f}".rstrip("0").rstrip(".")
 
 
 def spread_of(column: str, texts: Iterable[str]) -> list[str]:
@@ -168,8 +162,3 @@ def table_text(header: Sequence[str], rows: Sequence[Row]) -> str:
     text = "".join("  ".join(line).rstrip() + "\n" for line in lines if line)
     return f"{above}\n{text}" if above else text
 
-
-def csv_text(rows: Iterable[Row]) -> str:
-    stream = io.StringIO()
-    csv.writer(stream, lineterminator="\n").writerows(rows)
-    return stream.getvalue()

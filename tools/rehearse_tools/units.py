@@ -41,6 +41,11 @@ def number_of(text: str) -> float:
     return float(text) if "." in text else int(text)
 
 
+def decimal(value: float, digits: int = 3) -> str:
+    """A number with so many digits at most behind its point."""
+    return f"{value:.{digits}f}".rstrip("0").rstrip(".")
+
+
 def several(number: int, what: str) -> str:
     """As 1 row, or 2 rows."""
     return f"{number:,} {what}{'' if number == 1 else 's'}"

@@ -17,8 +17,8 @@ from contextlib import contextmanager
 from typing import Any, NamedTuple
 
 from .console import Fault, Progress, is_terminal, read_bytes, read_text, stop, take_signals, tell, write_bytes
-from .keys import PREVIEW
-from .programs import preview_words
+from .keys import VERSION_3
+from .programs import version_words
 from .runs import ALL_COLUMNS, COLUMNS, Ages, Counting, Ended, Engine, Extra, Ran, Take, piped, run
 from .scenarios import Setting, consumers_of, parsed, scripts_in, value_of, varied, ways_of, written
 from .scripts import NAME as SCRIPT_NAME
@@ -154,12 +154,12 @@ class Sweep:
 
     `needs_ages` says of a report if the ages of the messages are wanted as well, for which the log is read. If `extra`
     wants any columns beside those of the report, the rows have all such columns, and where they are counted by the log
-    it is read for each run. With `is_preview` scenarios of version 3 may be run.
+    it is read for each run. With `reads_version_3` scenarios may have version 3.
     """
 
     def __init__(self, path: str, settings: Settings, scripts: str, window: Window = Window(),
-                 is_preview: bool = False) -> None:
-        self.path, self.settings, self.program, self.is_preview = path, settings, "", is_preview
+                 reads_version_3: bool = False) -> None:
+        self.path, self.settings, self.program, self.reads_version_3 = path, settings, "", reads_version_3
         # the folder of the scripts that was named, and the one from which they are read
         self.folder = self.scripts = scripts
         self.window, self.extra = window, Extra()
@@ -168,17 +168,17 @@ class Sweep:
         self.cancel: Callable[[], None] = lambda: None
         self.given_text = read_text(path)
         self.scenario: dict[str, Any] = parsed(self.given_text, path)
-        self.check_preview()
+        self.check_version()
         self.places = [Setting(place) for place in settings.names()]
         self.check_places()
         self.interrupted, self.lock = False, threading.Lock()
         self.running: set[subprocess.Popen[bytes]] = set()
 
-    def check_preview(self) -> None:
+    def check_version(self) -> None:
         """Makes sure that version 3 is asked for, before all variants fail for it."""
         versions = [str(self.scenario.get("version")), *self.settings.values.get("version", [])]
-        if str(PREVIEW) in versions and not self.is_preview:
-            raise Fault(f"{self.path} has version {PREVIEW}, a preview, which is read only for the word --preview")
+        if str(VERSION_3) in versions and not self.reads_version_3:
+            raise Fault(f"{self.path} has version {VERSION_3}, which is read only for the word --v3")
 
     def check_places(self) -> None:
         """Makes sure that each setting names something, whatever the numbers of copies are."""
@@ -189,7 +189,7 @@ class Sweep:
 
     def of(self, path: str) -> "Sweep":
         """The same sweep of another scenario."""
-        other = Sweep(path, self.settings, self.folder, self.window, self.is_preview)
+        other = Sweep(path, self.settings, self.folder, self.window, self.reads_version_3)
         other.program, other.extra, other.cancel = self.program, self.extra, self.cancel
         if self.engine == self.here:
             other.keep_scripts(self.scripts)
@@ -272,7 +272,7 @@ class Sweep:
         return piped(command, text, take, self.watched)
 
     def command(self) -> list[str]:
-        return [self.program, "run", *preview_words(self.is_preview), "--scripts", self.scripts]
+        return [self.program, "run", *version_words(self.reads_version_3), "--scripts", self.scripts]
 
     def run(self, words: Sequence[str], is_counted: bool) -> Ran:
         """Runs the variant of some words, of which the log may be counted."""

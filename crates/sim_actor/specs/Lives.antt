@@ -104,6 +104,16 @@ Decides (Err refusals.CountLimit) new model = most_count < greatest_count model.
 Decides (Err refusals.Memory) new model = greatest_count model.1 ≤ most_count
 Decides (Err e) new model = ⊥
 
+-- the act of a scaler that changes how many copies ask, or not
+abbrev pub act_scaling : Option (ℕ × ℕ) → Act
+act_scaling None = acts.Nothing
+act_scaling (Some (from, to)) = acts.Scale from to
+
+-- the same of a scaler, by the two numbers of a change
+abbrev pub Rescales : Result (Option (ℕ × ℕ)) Refusal → Actor → Act × Actor → Type 0
+Rescales (Ok change) new model = Decides (Ok (act_scaling change)) new model
+Rescales (Err e) new model = Decides (Err e) new model
+
 -- the same if the definition returns only the actor
 abbrev pub Becomes : Result (Unit {0}) Refusal → Actor → Actor → Type 0
 Becomes (Ok u) new model = model ≡ new
@@ -184,11 +194,11 @@ abbrev pub in_service : ConsumerSettings → ℕ → Life → Life
 in_service c now l = record l { wake = Some (max (now + 1) (next_beat c.heartbeat now l.ends)) }
 
 -- a copy that wakes and is not to ask, and one that is to ask again
-abbrev pub copy_parks : ℕ → Option ℕ → Actor → Act × Actor
-copy_parks now next a = (acts.Nothing, record (woken a) { wake = looks_again now next; last_act = Parked })
+abbrev pub copy_parks : ℕ → Option ℕ → Actor → Actor
+copy_parks now next a = record (woken a) { wake = looks_again now next; last_act = Parked }
 
-abbrev pub copy_starts : Scaling → ℕ → Actor → Act × Actor
-copy_starts s now a = (acts.Nothing, record (woken a) { wake = Some (max (now + 1) (now + s.start)); last_act = Asked })
+abbrev pub copy_starts : Scaling → ℕ → Actor → Actor
+copy_starts s now a = record (woken a) { wake = Some (max (now + 1) (now + s.start)); last_act = Asked }
 
 -- how long a service of so many messages takes
 abbrev pub drawn_service : ℕ → ConsumerSettings → Draws → ℕ × Draws

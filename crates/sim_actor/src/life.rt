@@ -14,7 +14,7 @@ mod scaling;
 mod script;
 
 use crate::holding::Holding;
-pub(crate) use scaling::copies_by;
+pub(crate) use scaling::{act_scaling, copies_by};
 use sim_clock::Refusal;
 use sim_draw::Draws;
 use sqs_message::Receipt;

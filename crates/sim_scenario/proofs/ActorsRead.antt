@@ -20,6 +20,7 @@ use Rattle.sqs_formats.specs.Outline.{Outline, actor_place, is_fresh, kin_named,
 use Rattle.sqs_model.specs.declared.agents.Scaling.{Scaling}
 use Rattle.sqs_formats.specs.Actors.{Files, actor, agents_of, copies, calls, calls_by, calls_in, consuming, failing, forward, gap, home_of, producing, role, scaler, scaling, script_fault, script_file, scripted, sending, service, serving, serving_of, stopping}
 use Rattle.sqs_formats.specs.Script.{script}
+use Rattle.sqs_formats.specs.Targets.{target_by}
 use Rattle.sqs_model.specs.declared.agents.ActorSettings.{ActorSettings}
 use Rattle.sqs_model.specs.declared.agents.Distribution.{Distribution}
 use Rattle.sqs_model.specs.declared.agents.Forwarding.{Forwarding}
@@ -28,8 +29,9 @@ use Rattle.sqs_model.specs.declared.agents.ProducerSettings.{ProducerSettings}
 use Rattle.sqs_model.specs.declared.agents.Role.{Role}
 use Rattle.sqs_model.specs.declared.agents.Role.TheVariants.{Consumer, Producer, Scaler, Script}
 use Rattle.sqs_model.specs.declared.agents.Serving.{Serving}
+use Rattle.sqs_model.specs.declared.agents.Target.{Target}
 use Rattle.sqs_model.specs.Longest.{longest_delay, longest_timeout}
-use Rattle.sqs_model.specs.Valid.{Between, IsDistribution, IsOutage, IsServing, MayBeFailService, MayBeForward, MayBeGroups, MayBeHeartbeat, MayBeMoment, MayBeScaling, MayBeTimeout}
+use Rattle.sqs_model.specs.Valid.{Between, IsDistribution, IsOutage, IsServing, IsTarget, MayBeFailService, MayBeForward, MayBeGroups, MayBeHeartbeat, MayBeMoment, MayBeScaling, MayBeTimeout}
 use Rattle.sqs_formats.specs.Lists.{integers}
 use Rattle.sim_script.specs.Ranges.{IsCallAt, IsScriptOf}
 use Rattle.sim_scenario.specs.AtHome.{IsSendingAt, MayDelay}
@@ -211,6 +213,13 @@ thousand_within low high n h = (omega (arith, h.0), omega (arith, h.1))
 thousand_less : (every reading : ℕ) → 1 ≤ every → reading ≤ every - 1 → 1000 * reading < 1000 * every
 thousand_less every reading some within = omega (arith, some, within)
 
+target_reads : (by_steps : Bool) (t : Table) (x : Target) → target_by by_steps t ≡ Ok x → IsTarget x
+unfolding target_by
+target_reads true t x e = let steps = parts _ _ _ e in rw (← same_ok _ _ steps.2) tt
+target_reads false t x e =
+    let messages = parts _ _ _ e in
+    rw (← same_ok _ _ messages.2) (required_within 1 1000000 t (codes "visible_per_copy") messages.0 messages.1)
+
 scaler_reads : (o : Outline) (home : ℕ) (t : Table) (r : Role) → scaler t ≡ Ok r → RoleReads o home r
 scaler_reads o home t r e =
     let known = parts _ _ _ e in
@@ -233,7 +242,7 @@ scaler_reads o home t r e =
         start = (optional_within 0 2592000000 0 t (codes "start_ms") start.0 (lit≤ tt, lit≤ tt) start.1).1;
         every = thousand_within 1 86400 every.0 often;
         reading = thousand_less every.0 reading.0 often.0 old.1;
-        target = required_within 1 1000000 t (codes "visible_per_copy") target.0 target.1;
+        target = target_reads (has t (codes "steps")) t target.0 target.1;
         ordered = bounds.0;
         most = bounds.1;
         most_added = optional_within 1 1000 1000 t (codes "added_max") added.0 (lit≤ tt, lit≤ tt) added.1;

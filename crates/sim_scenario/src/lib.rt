@@ -26,6 +26,7 @@ mod scenario;
 mod script_files;
 mod scripted;
 mod section;
+mod targets;
 mod tasks;
 mod top;
 mod ways;

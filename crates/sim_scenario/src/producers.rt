@@ -47,7 +47,11 @@ fn sending_keys(is_fifo: bool, by_weight: bool) -> &'static [&'static str]
 fn newer_producer_keys(version: u64) -> &'static [&'static str]
     ensures { map (λ k. k.now) result.now ≡ newer_producer_keys version }
 {
-    if version >= 3 { &["stop_ms"] } else { &[] }
+    if version >= 3 {
+        &["stop_ms", "copies"]
+    } else {
+        &[]
+    }
 }
 
 /// Checks that a producer has known keys alone.

@@ -95,10 +95,10 @@ abbrev figures_built : Shape
 figures_built = head (drop 3 (built program).subs)
 
 run_owns : Each (IsOwn run_built.rules) run_built.rules
-run_owns = (refl, (refl, (refl, (refl, (refl, (refl, (refl, (refl, (refl, (refl, (refl, (refl, (refl, (refl, (refl, tt)))))))))))))))
+run_owns = (refl, (refl, (refl, (refl, (refl, (refl, (refl, (refl, (refl, (refl, (refl, (refl, (refl, (refl, (refl, (refl, tt))))))))))))))))
 
 figures_owns : Each (IsOwn figures_built.rules) figures_built.rules
-figures_owns = (refl, (refl, (refl, (refl, (refl, (refl, (refl, (refl, (refl, tt)))))))))
+figures_owns = (refl, (refl, (refl, (refl, (refl, (refl, (refl, (refl, (refl, (refl, tt))))))))))
 
 -- the numbers that passed a range from a first one on
 passed_range : (least : ℕ) (t : Text) → accepts false (parsers.Unsigned least 18446744073709551615) t ≡ true → IsNumber 64 (Some t)

@@ -1,5 +1,5 @@
 -- Which line a subcommand and its arguments are.
-use Rattle.std.specs.Prelude.{Bool, Err, List, None, Ok, Option, Result, Some, codes, false, option_map, ℕ, ◌<◌, ◌^◌, ◌≡◌, ◌⊎◌, true, ⊤}
+use Rattle.std.specs.Prelude.{Bool, Err, List, None, Ok, Option, Result, Some, codes, false, option_map, ℕ, ◌<◌, ◌^◌, ◌||◌, ◌≡◌, ◌⊎◌, true, ⊤}
 use Rattle.std.specs.Borrow.{Bor}
 use Rattle.std.specs.Str.Parse.{IsNumeral, digits_value, without_leading_plus}
 use Rattle.clap.specs.Words.{HasKind, Row, Text, fault_of, first_of, one_of}
@@ -38,6 +38,14 @@ pub record IsFlag (text : Option Text) (flag : Bool) : Type 0 where
   pub given : text ≡ Some (codes "true") → flag ≡ true
   pub left_out : text ≡ Some (codes "false") → flag ≡ false
 
+-- whether version 3 of scenarios was asked for: by --v3, or by its former name
+pub record AsksForThird (rows : List Row) (asked : Bool) : Type 0 where
+  pub v3 : Bool
+  pub preview : Bool
+  pub is_v3 : IsFlag (one_of (codes "v3") rows) v3
+  pub is_preview : IsFlag (one_of (codes "preview") rows) preview
+  pub either : asked ≡ v3 || preview
+
 -- what is wanted of figures by the arguments
 pub record IsWanted (rows : List Row) (l : WantedLine) : Type 0 where
   pub from : l.from ≡ number_of (one_of (codes "from") rows)
@@ -55,20 +63,20 @@ pub record IsRun (rows : List Row) (l : RunLine) : Type 0 where
   pub scripts : told l.scripts ≡ first_of (codes "scripts") rows
   pub figures : IsFlag (one_of (codes "figures") rows) l.figures
   pub wanted : IsWanted rows l.wanted
-  pub preview : IsFlag (one_of (codes "preview") rows) l.preview
+  pub version_3 : AsksForThird rows l.version_3
   pub quiet : IsFlag (one_of (codes "quiet") rows) l.quiet
   pub scenario : told l.scenario ≡ first_of (codes "scenario") rows
 
 -- a reading by its arguments
 pub record IsCheck (rows : List Row) (l : CheckLine) : Type 0 where
   pub scripts : told l.scripts ≡ first_of (codes "scripts") rows
-  pub preview : IsFlag (one_of (codes "preview") rows) l.preview
+  pub version_3 : AsksForThird rows l.version_3
   pub scenario : told l.scenario ≡ first_of (codes "scenario") rows
 
 -- a comparison by its arguments
 pub record IsCompare (rows : List Row) (l : CompareLine) : Type 0 where
   pub scripts : told l.scripts ≡ first_of (codes "scripts") rows
-  pub preview : IsFlag (one_of (codes "preview") rows) l.preview
+  pub version_3 : AsksForThird rows l.version_3
   pub first : told l.first ≡ first_of (codes "first") rows
   pub second : told l.second ≡ first_of (codes "second") rows
 
@@ -76,7 +84,7 @@ pub record IsCompare (rows : List Row) (l : CompareLine) : Type 0 where
 pub record IsFigures (rows : List Row) (l : FiguresLine) : Type 0 where
   pub scripts : told l.scripts ≡ first_of (codes "scripts") rows
   pub wanted : IsWanted rows l.wanted
-  pub preview : IsFlag (one_of (codes "preview") rows) l.preview
+  pub version_3 : AsksForThird rows l.version_3
   pub scenario : told l.scenario ≡ first_of (codes "scenario") rows
   pub log : told l.log ≡ first_of (codes "log") rows
 

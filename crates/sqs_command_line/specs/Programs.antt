@@ -43,30 +43,30 @@ with_wanted app =
     with_rule (with_rule (with_rule (with_rule app (moment_rule (codes "from"))) (moment_rule (codes "to"))) (moment_rule (codes "backlog")))
     (time_rule (codes "window-figures"))
 
--- .. [--preview]
-abbrev pub with_preview : App → App
-with_preview app = with_rule app (flag_rule (codes "preview"))
+-- .. [--v3] [--preview]
+abbrev pub with_version_3 : App → App
+with_version_3 app = with_rule (with_rule app (flag_rule (codes "v3"))) (flag_rule (codes "preview"))
 
--- .. [--figures] and what is wanted of them [--preview] [--quiet] [SCENARIO]
+-- .. [--figures] and what is wanted of them [--v3] [--preview] [--quiet] [SCENARIO]
 abbrev pub run_app : App
 run_app =
-    with_rule (with_rule (with_preview (with_wanted (with_rule run_files (flag_rule (codes "figures"))))) (flag_rule (codes "quiet")))
+    with_rule (with_rule (with_version_3 (with_wanted (with_rule run_files (flag_rule (codes "figures"))))) (flag_rule (codes "quiet")))
     (place_rule false (codes "scenario"))
 
--- check [--scripts DIR] [--preview] [SCENARIO]
+-- check [--scripts DIR] [--v3] [--preview] [SCENARIO]
 abbrev pub check_app : App
-check_app = with_rule (with_preview (with_rule (new_app (codes "check")) (option_rule (codes "scripts")))) (place_rule false (codes "scenario"))
+check_app = with_rule (with_version_3 (with_rule (new_app (codes "check")) (option_rule (codes "scripts")))) (place_rule false (codes "scenario"))
 
--- compare [--scripts DIR] [--preview] FIRST SECOND
+-- compare [--scripts DIR] [--v3] [--preview] FIRST SECOND
 abbrev pub compare_app : App
 compare_app =
-    with_rule (with_rule (with_preview (with_rule (new_app (codes "compare")) (option_rule (codes "scripts")))) (place_rule true (codes "first")))
+    with_rule (with_rule (with_version_3 (with_rule (new_app (codes "compare")) (option_rule (codes "scripts")))) (place_rule true (codes "first")))
     (place_rule true (codes "second"))
 
--- figures [--scripts DIR] and what is wanted of them [--preview] SCENARIO [LOG]
+-- figures [--scripts DIR] and what is wanted of them [--v3] [--preview] SCENARIO [LOG]
 abbrev pub figures_app : App
 figures_app =
-    with_rule (with_rule (with_preview (with_wanted (with_rule (new_app (codes "figures")) (option_rule (codes "scripts"))))) (place_rule true (codes "scenario")))
+    with_rule (with_rule (with_version_3 (with_wanted (with_rule (new_app (codes "figures")) (option_rule (codes "scripts"))))) (place_rule true (codes "scenario")))
     (place_rule false (codes "log"))
 
 -- sqs_rehearse, which asks for a subcommand

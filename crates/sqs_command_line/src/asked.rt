@@ -33,7 +33,7 @@ pub struct RunLine<'a> {
     /// What is wanted of them.
     pub wanted: WantedLine,
     /// Whether version 3 of scenarios is read, too.
-    pub preview: bool,
+    pub version_3: bool,
     /// Whether no progress is shown.
     pub quiet: bool,
     /// The file of the scenario.
@@ -46,7 +46,7 @@ pub struct CheckLine<'a> {
     /// The folder of the scripts.
     pub scripts: Option<&'a str>,
     /// Whether version 3 of scenarios is read, too.
-    pub preview: bool,
+    pub version_3: bool,
     /// The file of the scenario.
     pub scenario: Option<&'a str>,
 }
@@ -57,7 +57,7 @@ pub struct CompareLine<'a> {
     /// The folder of the scripts.
     pub scripts: Option<&'a str>,
     /// Whether version 3 of scenarios is read, too.
-    pub preview: bool,
+    pub version_3: bool,
     /// The files of the two scenarios.
     pub first: Option<&'a str>,
     pub second: Option<&'a str>,
@@ -71,7 +71,7 @@ pub struct FiguresLine<'a> {
     /// What is wanted of the figures.
     pub wanted: WantedLine,
     /// Whether version 3 of scenarios is read, too.
-    pub preview: bool,
+    pub version_3: bool,
     /// The file of the scenario.
     pub scenario: Option<&'a str>,
     /// The file of the log.

@@ -2,7 +2,7 @@
 ghost use Rattle.std.specs.Prelude.{◌≡◌, IfOk, false};
 ghost use Rattle.clap.specs.Words.{app_of, new_app, rule_of};
 ghost use Rattle.clap.specs.declared.builder.command.Command.TheViews.{out-Command as fields_of};
-ghost use Rattle.sqs_command_line.specs.Programs.{bare, check_app, compare_app, figures_app, flag_rule, moment_rule, number_rule, option_rule, place_rule, program, run_app, run_files, run_options, time_rule, with_wanted};
+ghost use Rattle.sqs_command_line.specs.Programs.{bare, check_app, compare_app, figures_app, flag_rule, moment_rule, number_rule, option_rule, place_rule, program, run_app, run_files, run_options, time_rule, with_version_3, with_wanted};
 
 use clap::{Arg, ArgAction, Command};
 use std::alloc::{AllocError, Global};
@@ -11,7 +11,7 @@ use std::alloc::{AllocError, Global};
 const SCRIPTS_HELP: &str = "The folder of the scripts [default: .]";
 
 /// The help of the newest version.
-const PREVIEW_HELP: &str = "Read version 3 of scenarios, too, which may still change";
+const V3_HELP: &str = "Read version 3 of scenarios, too";
 
 /// The help of the scenario.
 const SCENARIO_HELP: &str = "The scenario's file [default: standard input]";
@@ -215,6 +215,17 @@ fn with_wanted<'a>(alloc: Global, command: Command<'a>) -> Result<Command<'a>, A
     Ok(command)
 }
 
+// A command, also with the options by which version 3 of scenarios is read.
+fn with_version_3<'a>(alloc: Global, command: Command<'a>) -> Result<Command<'a>, AllocError>
+    requires { (fields_of command).has_globals ≡ false }
+    ensures app { IfOk result (λ c. app_of c ≡ with_version_3 (app_of command.entry)) }
+    ensures local { IfOk result (λ c. (fields_of c).has_globals ≡ false) }
+{
+    let command = command.arg(flag(alloc, "v3", V3_HELP))?;
+    let command = command.arg(flag(alloc, "preview", "The former name of --v3"))?;
+    Ok(command)
+}
+
 // The command `run`.
 fn run_command<'a>(alloc: Global) -> Result<Command<'a>, AllocError>
     ensures app { IfOk result (λ c. app_of c ≡ run_app) }
@@ -223,7 +234,7 @@ fn run_command<'a>(alloc: Global) -> Result<Command<'a>, AllocError>
     let command = run_files(alloc)?;
     let command = command.arg(flag(alloc, "figures", "Write figures behind the report"))?;
     let command = with_wanted(alloc, command)?;
-    let command = command.arg(flag(alloc, "preview", PREVIEW_HELP))?;
+    let command = with_version_3(alloc, command)?;
     let command = command.arg(flag(alloc, "quiet", "Show no progress, even on a terminal"))?;
     let command = command.arg(place(alloc, "scenario", false, SCENARIO_HELP))?;
     Ok(command)
@@ -241,7 +252,7 @@ fn check_command<'a>(alloc: Global) -> Result<Command<'a>, AllocError>
         CHECK_HELP,
     );
     let command = command.arg(option(alloc, "scripts", SCRIPTS_HELP))?;
-    let command = command.arg(flag(alloc, "preview", PREVIEW_HELP))?;
+    let command = with_version_3(alloc, command)?;
     let command = command.arg(place(alloc, "scenario", false, SCENARIO_HELP))?;
     Ok(command)
 }
@@ -258,7 +269,7 @@ fn compare_command<'a>(alloc: Global) -> Result<Command<'a>, AllocError>
         COMPARE_HELP,
     );
     let command = command.arg(option(alloc, "scripts", SCRIPTS_HELP))?;
-    let command = command.arg(flag(alloc, "preview", PREVIEW_HELP))?;
+    let command = with_version_3(alloc, command)?;
     let command = command.arg(place(alloc, "first", true, "The scenario to compare with"))?;
     let command = command.arg(place(alloc, "second", true, "The scenario to compare"))?;
     Ok(command)
@@ -277,7 +288,7 @@ fn figures_command<'a>(alloc: Global) -> Result<Command<'a>, AllocError>
     );
     let command = command.arg(option(alloc, "scripts", SCRIPTS_HELP))?;
     let command = with_wanted(alloc, command)?;
-    let command = command.arg(flag(alloc, "preview", PREVIEW_HELP))?;
+    let command = with_version_3(alloc, command)?;
     let command = command.arg(place(alloc, "scenario", true, "The scenario's file"))?;
     let command = command.arg(place(
         alloc,

@@ -1,7 +1,7 @@
 //! Reads the command line from its words.
 ghost use Rattle.std.specs.Prelude.{◌≡◌, [], IfErr, IfOk, MatchResult, map};
 ghost use Rattle.clap.specs.Words.{fault_of, found_of, one_of, rows_of, subcommand_of, subcommand_rows_of};
-ghost use Rattle.sqs_command_line.specs.Lines.{HasNumbers, HasWanted, IsCheck, IsCompare, IsFaultOf, IsFigures, IsLine, IsLineOf, IsReadable, IsReadableOf, IsRun, IsWanted, TellsNumber};
+ghost use Rattle.sqs_command_line.specs.Lines.{AsksForThird, HasNumbers, HasWanted, IsCheck, IsCompare, IsFaultOf, IsFigures, IsLine, IsLineOf, IsReadable, IsReadableOf, IsRun, IsWanted, TellsNumber};
 ghost use Rattle.sqs_command_line.specs.Programs.{program};
 
 use crate::asked::{CheckLine, CompareLine, FiguresLine, Line, LineFault, RunLine, WantedLine};
@@ -46,6 +46,15 @@ fn wanted_line(matches: &ArgMatches) -> Result<WantedLine, Unread>
     })
 }
 
+// Whether version 3 of scenarios is asked for.
+fn version_3(matches: &ArgMatches) -> bool
+    ensures { AsksForThird (rows_of (found_of matches.now)) result }
+{
+    let v3 = matches.get_flag("v3");
+    let preview = matches.get_flag("preview");
+    v3 || preview
+}
+
 // What `run` asks for.
 fn run_line<'a>(matches: &ArgMatches<'a>) -> Result<RunLine<'a>, Unread>
     ensures { MatchResult result (IsRun (rows_of (found_of matches.now)))
@@ -64,7 +73,7 @@ fn run_line<'a>(matches: &ArgMatches<'a>) -> Result<RunLine<'a>, Unread>
         scripts: matches.get_str("scripts"),
         figures: matches.get_flag("figures"),
         wanted,
-        preview: matches.get_flag("preview"),
+        version_3: version_3(matches),
         quiet: matches.get_flag("quiet"),
         scenario: matches.get_str("scenario"),
     })
@@ -76,7 +85,7 @@ fn check_line<'a>(matches: &ArgMatches<'a>) -> CheckLine<'a>
 {
     CheckLine {
         scripts: matches.get_str("scripts"),
-        preview: matches.get_flag("preview"),
+        version_3: version_3(matches),
         scenario: matches.get_str("scenario"),
     }
 }
@@ -87,7 +96,7 @@ fn compare_line<'a>(matches: &ArgMatches<'a>) -> CompareLine<'a>
 {
     CompareLine {
         scripts: matches.get_str("scripts"),
-        preview: matches.get_flag("preview"),
+        version_3: version_3(matches),
         first: matches.get_str("first"),
         second: matches.get_str("second"),
     }
@@ -102,7 +111,7 @@ fn figures_line<'a>(matches: &ArgMatches<'a>) -> Result<FiguresLine<'a>, Unread>
     Ok(FiguresLine {
         scripts: matches.get_str("scripts"),
         wanted,
-        preview: matches.get_flag("preview"),
+        version_3: version_3(matches),
         scenario: matches.get_str("scenario"),
         log: matches.get_str("log"),
     })

@@ -10,6 +10,12 @@ case_0_actor_named_as_a_copy : shown_upto 3 0 [] (codes "version = 3\nhorizon = 
 unfolding reading_on_literals running_on_literals columns_of
 case_0_actor_named_as_a_copy = refl
 
+-- faults-3/actor_named_as_a_copy_of_a_producer.toml
+case_0_actor_named_as_a_copy_of_a_producer : shown_upto 3 0 [] (codes "version = 3\nhorizon = 1000\n[[queue]]\nname = \"q\"\n[[queue]]\nname = \"f.fifo\"\n[[actor]]\nname = \"p\"\nkind = \"producer\"\nqueue = \"q\"\ncount = 1\nbody = \"m\"\ngap_min_ms = 1\ngap_max_ms = 1\ncopies = 2\n[[actor]]\nname = \"p-1\"\nkind = \"producer\"\nqueue = \"q\"\ncount = 1\nbody = \"m\"\ngap_min_ms = 1\ngap_max_ms = 1\n")
+    ≡ refused (codes "refused 16 NameTwice at actor[1].name\n")
+unfolding reading_on_literals running_on_literals columns_of
+case_0_actor_named_as_a_copy_of_a_producer = refl
+
 -- faults-3/actor_named_as_a_table_with_copies.toml
 case_0_actor_named_as_a_table_with_copies : shown_upto 3 0 [] (codes "version = 3\nhorizon = 1000\n[[queue]]\nname = \"q\"\n[[queue]]\nname = \"f.fifo\"\n[[actor]]\nname = \"c\"\nkind = \"consumer\"\nqueue = \"q\"\nservice_min_ms = 1\nservice_max_ms = 1\ncopies = 2\n[[actor]]\nname = \"c\"\nkind = \"consumer\"\nqueue = \"q\"\nservice_min_ms = 1\nservice_max_ms = 1\n")
     ≡ refused (codes "refused 16 NameTwice at actor[1].name\n")
@@ -118,11 +124,29 @@ case_0_copies_in_version_two : shown_upto 3 0 [] (codes "version = 2\nhorizon = 
 unfolding reading_on_literals running_on_literals columns_of
 case_0_copies_in_version_two = refl
 
--- faults-3/copies_of_a_producer.toml
-case_0_copies_of_a_producer : shown_upto 3 0 [] (codes "version = 3\nhorizon = 1000\n[[queue]]\nname = \"q\"\n[[queue]]\nname = \"f.fifo\"\n[[actor]]\nname = \"p\"\nkind = \"producer\"\nqueue = \"q\"\ncount = 1\nbody = \"m\"\ngap_min_ms = 1\ngap_max_ms = 1\ncopies = 2\n")
+-- faults-3/copies_of_a_producer_after_its_stop.toml
+case_0_copies_of_a_producer_after_its_stop : shown_upto 3 0 [] (codes "version = 3\nhorizon = 1000\n[[queue]]\nname = \"q\"\n[[queue]]\nname = \"f.fifo\"\n[[actor]]\nname = \"p\"\nkind = \"producer\"\nqueue = \"q\"\ncount = 1\nbody = \"m\"\ngap_min_ms = 1\ngap_max_ms = 1\nstart_ms = 5\nstop_ms = 4\ncopies = 0\n")
+    ≡ refused (codes "refused 14 OutOfRange at actor[0].stop_ms\n")
+unfolding reading_on_literals running_on_literals columns_of
+case_0_copies_of_a_producer_after_its_stop = refl
+
+-- faults-3/copies_of_a_producer_in_version_two.toml
+case_0_copies_of_a_producer_in_version_two : shown_upto 3 0 [] (codes "version = 2\nhorizon = 1000\n[[queue]]\nname = \"q\"\n[[queue]]\nname = \"f.fifo\"\n[[actor]]\nname = \"p\"\nkind = \"producer\"\nqueue = \"q\"\ncount = 1\nbody = \"m\"\ngap_min_ms = 1\ngap_max_ms = 1\ncopies = 2\n")
     ≡ refused (codes "refused 11 UnknownKey at actor[0].copies\n")
 unfolding reading_on_literals running_on_literals columns_of
-case_0_copies_of_a_producer = refl
+case_0_copies_of_a_producer_in_version_two = refl
+
+-- faults-3/copies_of_a_producer_of_zero.toml
+case_0_copies_of_a_producer_of_zero : shown_upto 3 0 [] (codes "version = 3\nhorizon = 1000\n[[queue]]\nname = \"q\"\n[[queue]]\nname = \"f.fifo\"\n[[actor]]\nname = \"p\"\nkind = \"producer\"\nqueue = \"q\"\ncount = 1\nbody = \"m\"\ngap_min_ms = 1\ngap_max_ms = 1\ncopies = 0\n")
+    ≡ refused (codes "refused 14 OutOfRange at actor[0].copies\n")
+unfolding reading_on_literals running_on_literals columns_of
+case_0_copies_of_a_producer_of_zero = refl
+
+-- faults-3/copies_of_a_script.toml
+case_0_copies_of_a_script : shown_upto 3 0 [] (codes "version = 3\nhorizon = 1000\n[[queue]]\nname = \"q\"\n[[queue]]\nname = \"f.fifo\"\n[[actor]]\nname = \"s\"\nkind = \"script\"\nqueue = \"q\"\ncalls = \"\"\ncopies = 2\n")
+    ≡ refused (codes "refused 11 UnknownKey at actor[0].copies\n")
+unfolding reading_on_literals running_on_literals columns_of
+case_0_copies_of_a_script = refl
 
 -- faults-3/copies_of_zero.toml
 case_0_copies_of_zero : shown_upto 3 0 [] (codes "version = 3\nhorizon = 1000\n[[queue]]\nname = \"q\"\n[[queue]]\nname = \"f.fifo\"\n[[actor]]\nname = \"c\"\nkind = \"consumer\"\nqueue = \"q\"\nservice_min_ms = 1\nservice_max_ms = 1\ncopies = 0\n")
@@ -153,6 +177,12 @@ case_0_copy_named_as_an_earlier_actor : shown_upto 3 0 [] (codes "version = 3\nh
     ≡ refused (codes "refused 16 NameTwice at actor[1].copies\n")
 unfolding reading_on_literals running_on_literals columns_of
 case_0_copy_named_as_an_earlier_actor = refl
+
+-- faults-3/copy_of_a_producer_named_as_an_earlier_actor.toml
+case_0_copy_of_a_producer_named_as_an_earlier_actor : shown_upto 3 0 [] (codes "version = 3\nhorizon = 1000\n[[queue]]\nname = \"q\"\n[[queue]]\nname = \"f.fifo\"\n[[actor]]\nname = \"p-2\"\nkind = \"producer\"\nqueue = \"q\"\ncount = 1\nbody = \"m\"\ngap_min_ms = 1\ngap_max_ms = 1\n[[actor]]\nname = \"p\"\nkind = \"producer\"\nqueue = \"q\"\ncount = 1\nbody = \"m\"\ngap_min_ms = 1\ngap_max_ms = 1\ncopies = 2\n")
+    ≡ refused (codes "refused 16 NameTwice at actor[1].copies\n")
+unfolding reading_on_literals running_on_literals columns_of
+case_0_copy_of_a_producer_named_as_an_earlier_actor = refl
 
 -- faults-3/end_of_an_outage_beside_outages.toml
 case_0_end_of_an_outage_beside_outages : shown_upto 3 0 [] (codes "version = 3\nhorizon = 1000\n[[queue]]\nname = \"q\"\n[[queue]]\nname = \"f.fifo\"\n[[actor]]\nname = \"c\"\nkind = \"consumer\"\nqueue = \"q\"\nservice_min_ms = 1\nservice_max_ms = 1\nfails_between_ms = [[1, 2]]\nfails_to_ms = 1\n")
@@ -640,6 +670,12 @@ case_0_scaler_without_its_greatest_number : shown_upto 3 0 [] (codes "version = 
 unfolding reading_on_literals running_on_literals columns_of
 case_0_scaler_without_its_greatest_number = refl
 
+-- faults-3/scaler_without_steps_or_a_number.toml
+case_0_scaler_without_steps_or_a_number : shown_upto 3 0 [] (codes "version = 3\nhorizon = 1000\n[[queue]]\nname = \"q\"\n[[queue]]\nname = \"p\"\n[[actor]]\nname = \"x\"\nkind = \"scaler\"\nqueue = \"q\"\nevery_s = 60\ncopies_max = 5\n")
+    ≡ refused (codes "refused 12 MissingKey at actor[0].visible_per_copy\n")
+unfolding reading_on_literals running_on_literals columns_of
+case_0_scaler_without_steps_or_a_number = refl
+
 -- faults-3/start_of_a_copy_over_a_day.toml
 case_0_start_of_a_copy_over_a_day : shown_upto 3 0 [] (codes "version = 3\nhorizon = 1000\n[[queue]]\nname = \"q\"\n[[queue]]\nname = \"p\"\n[[actor]]\nname = \"c\"\nkind = \"consumer\"\nqueue = \"q\"\nservice_min_ms = 1\nservice_max_ms = 1\ncopies = 0\nscaler = \"x\"\nscaler_start_ms = 86400001\n[[actor]]\nname = \"x\"\nkind = \"scaler\"\nqueue = \"q\"\nevery_s = 60\nvisible_per_copy = 10\ncopies_max = 5\n")
     ≡ refused (codes "refused 14 OutOfRange at actor[0].scaler_start_ms\n")
@@ -651,6 +687,114 @@ case_0_start_of_a_copy_without_a_scaler : shown_upto 3 0 [] (codes "version = 3\
     ≡ refused (codes "refused 11 UnknownKey at actor[1].scaler_start_ms\n")
 unfolding reading_on_literals running_on_literals columns_of
 case_0_start_of_a_copy_without_a_scaler = refl
+
+-- faults-3/step_below_zero.toml
+case_0_step_below_zero : shown_upto 3 0 [] (codes "version = 3\nhorizon = 1000\n[[queue]]\nname = \"q\"\n[[queue]]\nname = \"p\"\n[[actor]]\nname = \"x\"\nkind = \"scaler\"\nqueue = \"q\"\nevery_s = 60\nsteps = [[-1, 1]]\ncopies_max = 5\n")
+    ≡ refused (codes "refused 14 OutOfRange at actor[0].steps[0]\n")
+unfolding reading_on_literals running_on_literals columns_of
+case_0_step_below_zero = refl
+
+-- faults-3/step_of_1001_copies.toml
+case_0_step_of_1001_copies : shown_upto 3 0 [] (codes "version = 3\nhorizon = 1000\n[[queue]]\nname = \"q\"\n[[queue]]\nname = \"p\"\n[[actor]]\nname = \"x\"\nkind = \"scaler\"\nqueue = \"q\"\nevery_s = 60\nsteps = [[1, 1000], [2, 1001]]\ncopies_max = 5\n")
+    ≡ refused (codes "refused 14 OutOfRange at actor[0].steps[1]\n")
+unfolding reading_on_literals running_on_literals columns_of
+case_0_step_of_1001_copies = refl
+
+-- faults-3/step_of_a_text_for_copies.toml
+case_0_step_of_a_text_for_copies : shown_upto 3 0 [] (codes "version = 3\nhorizon = 1000\n[[queue]]\nname = \"q\"\n[[queue]]\nname = \"p\"\n[[actor]]\nname = \"x\"\nkind = \"scaler\"\nqueue = \"q\"\nevery_s = 60\nsteps = [[1, \"1\"]]\ncopies_max = 5\n")
+    ≡ refused (codes "refused 13 WrongType at actor[0].steps[0]\n")
+unfolding reading_on_literals running_on_literals columns_of
+case_0_step_of_a_text_for_copies = refl
+
+-- faults-3/step_of_fewer_than_no_copies.toml
+case_0_step_of_fewer_than_no_copies : shown_upto 3 0 [] (codes "version = 3\nhorizon = 1000\n[[queue]]\nname = \"q\"\n[[queue]]\nname = \"p\"\n[[actor]]\nname = \"x\"\nkind = \"scaler\"\nqueue = \"q\"\nevery_s = 60\nsteps = [[1, -1]]\ncopies_max = 5\n")
+    ≡ refused (codes "refused 14 OutOfRange at actor[0].steps[0]\n")
+unfolding reading_on_literals running_on_literals columns_of
+case_0_step_of_fewer_than_no_copies = refl
+
+-- faults-3/step_of_no_whole_number.toml
+case_0_step_of_no_whole_number : shown_upto 3 0 [] (codes "version = 3\nhorizon = 1000\n[[queue]]\nname = \"q\"\n[[queue]]\nname = \"p\"\n[[actor]]\nname = \"x\"\nkind = \"scaler\"\nqueue = \"q\"\nevery_s = 60\nsteps = [[1.5, 1]]\ncopies_max = 5\n")
+    ≡ refused (codes "refused 13 WrongType at actor[0].steps[0]\n")
+unfolding reading_on_literals running_on_literals columns_of
+case_0_step_of_no_whole_number = refl
+
+-- faults-3/step_of_one_number.toml
+case_0_step_of_one_number : shown_upto 3 0 [] (codes "version = 3\nhorizon = 1000\n[[queue]]\nname = \"q\"\n[[queue]]\nname = \"p\"\n[[actor]]\nname = \"x\"\nkind = \"scaler\"\nqueue = \"q\"\nevery_s = 60\nsteps = [[1, 1], [2]]\ncopies_max = 5\n")
+    ≡ refused (codes "refused 14 OutOfRange at actor[0].steps[1]\n")
+unfolding reading_on_literals running_on_literals columns_of
+case_0_step_of_one_number = refl
+
+-- faults-3/step_of_three_numbers.toml
+case_0_step_of_three_numbers : shown_upto 3 0 [] (codes "version = 3\nhorizon = 1000\n[[queue]]\nname = \"q\"\n[[queue]]\nname = \"p\"\n[[actor]]\nname = \"x\"\nkind = \"scaler\"\nqueue = \"q\"\nevery_s = 60\nsteps = [[1, 1, 1]]\ncopies_max = 5\n")
+    ≡ refused (codes "refused 14 OutOfRange at actor[0].steps[0]\n")
+unfolding reading_on_literals running_on_literals columns_of
+case_0_step_of_three_numbers = refl
+
+-- faults-3/step_over_a_million.toml
+case_0_step_over_a_million : shown_upto 3 0 [] (codes "version = 3\nhorizon = 1000\n[[queue]]\nname = \"q\"\n[[queue]]\nname = \"p\"\n[[actor]]\nname = \"x\"\nkind = \"scaler\"\nqueue = \"q\"\nevery_s = 60\nsteps = [[1000000, 1], [1000001, 2]]\ncopies_max = 5\n")
+    ≡ refused (codes "refused 14 OutOfRange at actor[0].steps[1]\n")
+unfolding reading_on_literals running_on_literals columns_of
+case_0_step_over_a_million = refl
+
+-- faults-3/step_that_is_no_list.toml
+case_0_step_that_is_no_list : shown_upto 3 0 [] (codes "version = 3\nhorizon = 1000\n[[queue]]\nname = \"q\"\n[[queue]]\nname = \"p\"\n[[actor]]\nname = \"x\"\nkind = \"scaler\"\nqueue = \"q\"\nevery_s = 60\nsteps = [[1, 1], 2]\ncopies_max = 5\n")
+    ≡ refused (codes "refused 13 WrongType at actor[0].steps[1]\n")
+unfolding reading_on_literals running_on_literals columns_of
+case_0_step_that_is_no_list = refl
+
+-- faults-3/steps_after_the_reading.toml
+case_0_steps_after_the_reading : shown_upto 3 0 [] (codes "version = 3\nhorizon = 1000\n[[queue]]\nname = \"q\"\n[[queue]]\nname = \"p\"\n[[actor]]\nname = \"x\"\nkind = \"scaler\"\nqueue = \"q\"\nevery_s = 60\nreading_s = 60\nsteps = []\ncopies_max = 5\n")
+    ≡ refused (codes "refused 14 OutOfRange at actor[0].reading_s\n")
+unfolding reading_on_literals running_on_literals columns_of
+case_0_steps_after_the_reading = refl
+
+-- faults-3/steps_before_the_fewest_copies.toml
+case_0_steps_before_the_fewest_copies : shown_upto 3 0 [] (codes "version = 3\nhorizon = 1000\n[[queue]]\nname = \"q\"\n[[queue]]\nname = \"p\"\n[[actor]]\nname = \"x\"\nkind = \"scaler\"\nqueue = \"q\"\nevery_s = 60\nsteps = [[2, 1001]]\ncopies_min = 1001\n")
+    ≡ refused (codes "refused 14 OutOfRange at actor[0].steps[0]\n")
+unfolding reading_on_literals running_on_literals columns_of
+case_0_steps_before_the_fewest_copies = refl
+
+-- faults-3/steps_beside_one_number.toml
+case_0_steps_beside_one_number : shown_upto 3 0 [] (codes "version = 3\nhorizon = 1000\n[[queue]]\nname = \"q\"\n[[queue]]\nname = \"p\"\n[[actor]]\nname = \"x\"\nkind = \"scaler\"\nqueue = \"q\"\nevery_s = 60\nsteps = []\nvisible_per_copy = 10\ncopies_max = 5\n")
+    ≡ refused (codes "refused 11 UnknownKey at actor[0].visible_per_copy\n")
+unfolding reading_on_literals running_on_literals columns_of
+case_0_steps_beside_one_number = refl
+
+-- faults-3/steps_of_33.toml
+case_0_steps_of_33 : shown_upto 3 0 [] (codes "version = 3\nhorizon = 1000\n[[queue]]\nname = \"q\"\n[[queue]]\nname = \"p\"\n[[actor]]\nname = \"x\"\nkind = \"scaler\"\nqueue = \"q\"\nevery_s = 60\nsteps = [[0, 0], [1, 1], [2, 2], [3, 3], [4, 4], [5, 5], [6, 6], [7, 7], [8, 8], [9, 9], [10, 10], [11, 11], [12, 12], [13, 13], [14, 14], [15, 15], [16, 16], [17, 17], [18, 18], [19, 19], [20, 20], [21, 21], [22, 22], [23, 23], [24, 24], [25, 25], [26, 26], [27, 27], [28, 28], [29, 29], [30, 30], [31, 31], [32, 32]]\ncopies_max = 5\n")
+    ≡ refused (codes "refused 19 TooMany at actor[0].steps\n")
+unfolding reading_on_literals running_on_literals columns_of
+case_0_steps_of_33 = refl
+
+-- faults-3/steps_of_a_consumer.toml
+case_0_steps_of_a_consumer : shown_upto 3 0 [] (codes "version = 3\nhorizon = 1000\n[[queue]]\nname = \"q\"\n[[queue]]\nname = \"f.fifo\"\n[[actor]]\nname = \"c\"\nkind = \"consumer\"\nqueue = \"q\"\nservice_min_ms = 1\nservice_max_ms = 1\nsteps = [[1, 1]]\n")
+    ≡ refused (codes "refused 11 UnknownKey at actor[0].steps\n")
+unfolding reading_on_literals running_on_literals columns_of
+case_0_steps_of_a_consumer = refl
+
+-- faults-3/steps_of_equal_numbers.toml
+case_0_steps_of_equal_numbers : shown_upto 3 0 [] (codes "version = 3\nhorizon = 1000\n[[queue]]\nname = \"q\"\n[[queue]]\nname = \"p\"\n[[actor]]\nname = \"x\"\nkind = \"scaler\"\nqueue = \"q\"\nevery_s = 60\nsteps = [[0, 0], [5, 1], [5, \"2\"]]\ncopies_max = 5\n")
+    ≡ refused (codes "refused 14 OutOfRange at actor[0].steps[2]\n")
+unfolding reading_on_literals running_on_literals columns_of
+case_0_steps_of_equal_numbers = refl
+
+-- faults-3/steps_that_are_no_list.toml
+case_0_steps_that_are_no_list : shown_upto 3 0 [] (codes "version = 3\nhorizon = 1000\n[[queue]]\nname = \"q\"\n[[queue]]\nname = \"p\"\n[[actor]]\nname = \"x\"\nkind = \"scaler\"\nqueue = \"q\"\nevery_s = 60\nsteps = 10\ncopies_max = 5\n")
+    ≡ refused (codes "refused 13 WrongType at actor[0].steps\n")
+unfolding reading_on_literals running_on_literals columns_of
+case_0_steps_that_are_no_list = refl
+
+-- faults-3/steps_that_are_none.toml
+case_0_steps_that_are_none : shown_upto 3 0 [] (codes "version = 3\nhorizon = 1000\n[[queue]]\nname = \"q\"\n[[queue]]\nname = \"p\"\n[[actor]]\nname = \"x\"\nkind = \"scaler\"\nqueue = \"q\"\nevery_s = 60\nsteps = []\ncopies_max = 5\n")
+    ≡ refused (codes "refused 14 OutOfRange at actor[0].steps\n")
+unfolding reading_on_literals running_on_literals columns_of
+case_0_steps_that_are_none = refl
+
+-- faults-3/steps_that_descend.toml
+case_0_steps_that_descend : shown_upto 3 0 [] (codes "version = 3\nhorizon = 1000\n[[queue]]\nname = \"q\"\n[[queue]]\nname = \"p\"\n[[actor]]\nname = \"x\"\nkind = \"scaler\"\nqueue = \"q\"\nevery_s = 60\nsteps = [[5, 1], [4, 2]]\ncopies_max = 5\n")
+    ≡ refused (codes "refused 14 OutOfRange at actor[0].steps[1]\n")
+unfolding reading_on_literals running_on_literals columns_of
+case_0_steps_that_descend = refl
 
 -- faults-3/stop_after_the_other_keys.toml
 case_0_stop_after_the_other_keys : shown_upto 3 0 [] (codes "version = 3\nhorizon = 1000\n[[queue]]\nname = \"q\"\n[[queue]]\nname = \"f.fifo\"\n[[actor]]\nname = \"c\"\nkind = \"consumer\"\nqueue = \"q\"\nservice_min_ms = 1\nservice_max_ms = 1\nidle_ms = 0\nstop_ms = -1\n")

@@ -20,6 +20,7 @@ use Rattle.sqs_model.specs.Run.{Run, after}
 use Rattle.sqs_model.specs.World.{next_due}
 use Rattle.sqs_model.specs.Finals.{finals_of}
 use Rattle.sqs_model.specs.Accounts.{origin_in, is_first, places}
+use Rattle.sqs_formats.specs.Targets.{step, target_by}
 use Rattle.sqs_formats.specs.declared.faults.ScenarioFault.{ScenarioFault}
 use Rattle.sqs_formats.specs.Actors.{Files}
 use Rattle.sqs_formats.specs.Scenario.{released, scenario_upto}
@@ -27,7 +28,7 @@ use Rattle.sqs_formats.specs.Output.{output_records, fault_line}
 
 -- what a lemma opens to compute a run, but for MD5
 unfoldable pub running_on_literals : ⊤
-unfolding digits encode_with sha256 first_words digest_bytes hash_after compress rounds schedule block_word double_rounds column_round diagonal_round quarter_round u32_at word body_digest next dues core_dues act_made handle_class handled finals_of
+unfolding digits encode_with sha256 first_words digest_bytes hash_after compress rounds schedule block_word double_rounds column_round diagonal_round quarter_round u32_at word body_digest next dues core_dues act_made handle_class handled finals_of step target_by
 running_on_literals = tt
 
 -- the MD5 of a body, as it is written

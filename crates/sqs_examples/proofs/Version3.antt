@@ -211,6 +211,75 @@ case_0_copies : shown_upto 3 73 [] (codes "# Agents: q is 0, w-1 is 1 as its tab
 unfolding reading_on_literals running_on_literals columns_of
 case_0_copies = refl
 
+-- version-3/copies_of_a_producer.toml
+case_0_copies_of_a_producer : shown_upto 3 67 [] (codes "# Agents: q.fifo is 0, p-1 is 1 as its table, s is 2, and p-2 is 3, behind all actors of the text. The first word of agent 1\n# is 839.344, and its gap 100 + 839 = 939. That of agent 3 is 938.159: 100 + 938 = 1038. The deduplication ids are 1-0 and\n# 1-1 of p-1, 3-0 and 3-1 of p-2. So all four messages are new, and the script meets two of the ids.\nversion = 3\nhorizon = 1200\n[[queue]]\nname = \"q.fifo\"\n[[actor]]\nname = \"p\"\nkind = \"producer\"\nqueue = \"q.fifo\"\ncount = 2\ngap_min_ms = 100\ngap_max_ms = 1099\nbody = \"x\"\ngroups = 2\ncopies = 2\n[[actor]]\nname = \"s\"\nkind = \"script\"\nqueue = \"q.fifo\"\ncalls = \"\"\"\nat,call,body,group,id,delay,receipt,max,wait,timeout,task\n500,send,a,g0,1-0,,,,,,\n501,send,a,g0,2-0,,,,,,\n502,send,a,g0,3-0,,,,,,\n\"\"\"\n")
+    ≡ ran (((codes "at") ∷ (codes "queue") ∷ (codes "agent") ∷ (codes "call") ∷ (codes "answer") ∷ (codes "message") ∷ (codes "receipt") ∷ (codes "detail") ∷ []) ∷
+    ((codes "0") ∷ (codes "q.fifo") ∷ (codes "p-1") ∷ (codes "send") ∷ (codes "new") ∷ (codes "m-0-0") ∷ [] ∷ digest (codes "x") ∷ []) ∷
+    ((codes "0") ∷ (codes "q.fifo") ∷ (codes "p-2") ∷ (codes "send") ∷ (codes "new") ∷ (codes "m-0-1") ∷ [] ∷ digest (codes "x") ∷ []) ∷
+    ((codes "500") ∷ (codes "q.fifo") ∷ (codes "s") ∷ (codes "send") ∷ (codes "repeat") ∷ (codes "m-0-0") ∷ [] ∷ digest (codes "a") ∷ []) ∷
+    ((codes "501") ∷ (codes "q.fifo") ∷ (codes "s") ∷ (codes "send") ∷ (codes "new") ∷ (codes "m-0-2") ∷ [] ∷ digest (codes "a") ∷ []) ∷
+    ((codes "502") ∷ (codes "q.fifo") ∷ (codes "s") ∷ (codes "send") ∷ (codes "repeat") ∷ (codes "m-0-1") ∷ [] ∷ digest (codes "a") ∷ []) ∷
+    ((codes "939") ∷ (codes "q.fifo") ∷ (codes "p-1") ∷ (codes "send") ∷ (codes "new") ∷ (codes "m-0-3") ∷ [] ∷ digest (codes "x") ∷ []) ∷
+    ((codes "1038") ∷ (codes "q.fifo") ∷ (codes "p-2") ∷ (codes "send") ∷ (codes "new") ∷ (codes "m-0-4") ∷ [] ∷ digest (codes "x") ∷ []) ∷
+    ((codes "final") ∷ (codes "queue") ∷ (codes "message") ∷ (codes "origin") ∷ (codes "place") ∷ (codes "due") ∷ (codes "enqueued") ∷ (codes "receives") ∷ (codes "group") ∷ (codes "md5") ∷ []) ∷
+    ((codes "final") ∷ (codes "q.fifo") ∷ (codes "m-0-0") ∷ (codes "o-0-0") ∷ (codes "visible") ∷ [] ∷ (codes "0") ∷ (codes "0") ∷ (codes "g0") ∷ digest (codes "x") ∷ []) ∷
+    ((codes "final") ∷ (codes "q.fifo") ∷ (codes "m-0-1") ∷ (codes "o-0-1") ∷ (codes "visible") ∷ [] ∷ (codes "0") ∷ (codes "0") ∷ (codes "g0") ∷ digest (codes "x") ∷ []) ∷
+    ((codes "final") ∷ (codes "q.fifo") ∷ (codes "m-0-2") ∷ (codes "o-0-2") ∷ (codes "visible") ∷ [] ∷ (codes "501") ∷ (codes "0") ∷ (codes "g0") ∷ digest (codes "a") ∷ []) ∷
+    ((codes "final") ∷ (codes "q.fifo") ∷ (codes "m-0-3") ∷ (codes "o-0-3") ∷ (codes "visible") ∷ [] ∷ (codes "939") ∷ (codes "0") ∷ (codes "g1") ∷ digest (codes "x") ∷ []) ∷
+    ((codes "final") ∷ (codes "q.fifo") ∷ (codes "m-0-4") ∷ (codes "o-0-4") ∷ (codes "visible") ∷ [] ∷ (codes "1038") ∷ (codes "0") ∷ (codes "g1") ∷ digest (codes "x") ∷ []) ∷
+    ((codes "transfer") ∷ (codes "from") ∷ (codes "to") ∷ (codes "kind") ∷ (codes "due") ∷ (codes "number") ∷ (codes "message") ∷ (codes "origin") ∷ (codes "md5") ∷ []) ∷
+    ((codes "task") ∷ (codes "name") ∷ (codes "status") ∷ (codes "moved") ∷ []) ∷
+    ((codes "report") ∷ (codes "queue") ∷ (codes "sends") ∷ (codes "repeats") ∷ (codes "receives") ∷ (codes "empties") ∷ (codes "deletes") ∷ (codes "expiries") ∷ (codes "redrives") ∷ (codes "moves") ∷ (codes "arrivals") ∷ (codes "OverLimit") ∷ (codes "MessageNotInflight") ∷ (codes "ReceiptHandleIsInvalid") ∷ (codes "BadTimeout") ∷ (codes "MissingGroup") ∷ (codes "MissingDeduplication") ∷ (codes "BadDelay") ∷ (codes "TaskRunning") ∷ (codes "NoTask") ∷ (codes "depth_max") ∷ (codes "visible") ∷ (codes "in_flight") ∷ (codes "delayed") ∷ (codes "age_sum") ∷ (codes "age_max") ∷ (codes "age_p50") ∷ (codes "age_p95") ∷ (codes "age_p99") ∷ []) ∷
+    ((codes "report") ∷ (codes "q.fifo") ∷ (codes "5") ∷ (codes "2") ∷ (codes "0") ∷ (codes "0") ∷ (codes "0") ∷ (codes "0") ∷ (codes "0") ∷ (codes "0") ∷ (codes "0") ∷ (codes "0") ∷ (codes "0") ∷ (codes "0") ∷ (codes "0") ∷ (codes "0") ∷ (codes "0") ∷ (codes "0") ∷ (codes "0") ∷ (codes "0") ∷ (codes "5") ∷ (codes "5") ∷ (codes "0") ∷ (codes "0") ∷ (codes "0") ∷ [] ∷ [] ∷ [] ∷ [] ∷ []) ∷ [])
+unfolding reading_on_literals running_on_literals columns_of
+case_0_copies_of_a_producer = refl
+
+-- version-3/copies_of_a_producer_and_a_consumer.toml
+case_0_copies_of_a_producer_and_a_consumer : shown_upto 3 74 [] (codes "# Agents: q is 0, p-1 is 1 and w-1 is 2, as their tables. Behind all actors of the text p-2 is 3, and w-2 is 4. So at 0 each\n# copy of the consumer gets what the copy of the producer before it has sent. Each copy of the producer sends two messages.\nversion = 3\nhorizon = 400\n[[queue]]\nname = \"q\"\n[[actor]]\nname = \"p\"\nkind = \"producer\"\nqueue = \"q\"\ncount = 2\ngap_min_ms = 50\ngap_max_ms = 50\nbody = \"{n}\"\ncopies = 2\n[[actor]]\nname = \"w\"\nkind = \"consumer\"\nqueue = \"q\"\nservice_min_ms = 100\nservice_max_ms = 100\ncopies = 2\n")
+    ≡ ran (((codes "at") ∷ (codes "queue") ∷ (codes "agent") ∷ (codes "call") ∷ (codes "answer") ∷ (codes "message") ∷ (codes "receipt") ∷ (codes "detail") ∷ []) ∷
+    ((codes "0") ∷ (codes "q") ∷ (codes "p-1") ∷ (codes "send") ∷ (codes "new") ∷ (codes "m-0-0") ∷ [] ∷ digest (codes "0") ∷ []) ∷
+    ((codes "0") ∷ (codes "q") ∷ (codes "w-1") ∷ (codes "receive") ∷ (codes "ok") ∷ (codes "m-0-0") ∷ (codes "r-0-0-1") ∷ (codes "o-0-0") ∷ []) ∷
+    ((codes "0") ∷ (codes "q") ∷ (codes "p-2") ∷ (codes "send") ∷ (codes "new") ∷ (codes "m-0-1") ∷ [] ∷ digest (codes "0") ∷ []) ∷
+    ((codes "0") ∷ (codes "q") ∷ (codes "w-2") ∷ (codes "receive") ∷ (codes "ok") ∷ (codes "m-0-1") ∷ (codes "r-0-1-1") ∷ (codes "o-0-1") ∷ []) ∷
+    ((codes "50") ∷ (codes "q") ∷ (codes "p-1") ∷ (codes "send") ∷ (codes "new") ∷ (codes "m-0-2") ∷ [] ∷ digest (codes "1") ∷ []) ∷
+    ((codes "50") ∷ (codes "q") ∷ (codes "p-2") ∷ (codes "send") ∷ (codes "new") ∷ (codes "m-0-3") ∷ [] ∷ digest (codes "1") ∷ []) ∷
+    ((codes "100") ∷ (codes "q") ∷ (codes "w-1") ∷ (codes "delete") ∷ (codes "deleted") ∷ (codes "m-0-0") ∷ (codes "r-0-0-1") ∷ (codes "100") ∷ []) ∷
+    ((codes "100") ∷ (codes "q") ∷ (codes "w-2") ∷ (codes "delete") ∷ (codes "deleted") ∷ (codes "m-0-1") ∷ (codes "r-0-1-1") ∷ (codes "100") ∷ []) ∷
+    ((codes "101") ∷ (codes "q") ∷ (codes "w-1") ∷ (codes "receive") ∷ (codes "ok") ∷ (codes "m-0-2") ∷ (codes "r-0-2-1") ∷ (codes "o-0-2") ∷ []) ∷
+    ((codes "101") ∷ (codes "q") ∷ (codes "w-2") ∷ (codes "receive") ∷ (codes "ok") ∷ (codes "m-0-3") ∷ (codes "r-0-3-1") ∷ (codes "o-0-3") ∷ []) ∷
+    ((codes "201") ∷ (codes "q") ∷ (codes "w-1") ∷ (codes "delete") ∷ (codes "deleted") ∷ (codes "m-0-2") ∷ (codes "r-0-2-1") ∷ (codes "151") ∷ []) ∷
+    ((codes "201") ∷ (codes "q") ∷ (codes "w-2") ∷ (codes "delete") ∷ (codes "deleted") ∷ (codes "m-0-3") ∷ (codes "r-0-3-1") ∷ (codes "151") ∷ []) ∷
+    ((codes "202") ∷ (codes "q") ∷ (codes "w-1") ∷ (codes "receive") ∷ (codes "empty") ∷ [] ∷ [] ∷ [] ∷ []) ∷
+    ((codes "202") ∷ (codes "q") ∷ (codes "w-2") ∷ (codes "receive") ∷ (codes "empty") ∷ [] ∷ [] ∷ [] ∷ []) ∷
+    ((codes "final") ∷ (codes "queue") ∷ (codes "message") ∷ (codes "origin") ∷ (codes "place") ∷ (codes "due") ∷ (codes "enqueued") ∷ (codes "receives") ∷ (codes "group") ∷ (codes "md5") ∷ []) ∷
+    ((codes "transfer") ∷ (codes "from") ∷ (codes "to") ∷ (codes "kind") ∷ (codes "due") ∷ (codes "number") ∷ (codes "message") ∷ (codes "origin") ∷ (codes "md5") ∷ []) ∷
+    ((codes "task") ∷ (codes "name") ∷ (codes "status") ∷ (codes "moved") ∷ []) ∷
+    ((codes "report") ∷ (codes "queue") ∷ (codes "sends") ∷ (codes "repeats") ∷ (codes "receives") ∷ (codes "empties") ∷ (codes "deletes") ∷ (codes "expiries") ∷ (codes "redrives") ∷ (codes "moves") ∷ (codes "arrivals") ∷ (codes "OverLimit") ∷ (codes "MessageNotInflight") ∷ (codes "ReceiptHandleIsInvalid") ∷ (codes "BadTimeout") ∷ (codes "MissingGroup") ∷ (codes "MissingDeduplication") ∷ (codes "BadDelay") ∷ (codes "TaskRunning") ∷ (codes "NoTask") ∷ (codes "depth_max") ∷ (codes "visible") ∷ (codes "in_flight") ∷ (codes "delayed") ∷ (codes "age_sum") ∷ (codes "age_max") ∷ (codes "age_p50") ∷ (codes "age_p95") ∷ (codes "age_p99") ∷ []) ∷
+    ((codes "report") ∷ (codes "q") ∷ (codes "4") ∷ (codes "0") ∷ (codes "4") ∷ (codes "2") ∷ (codes "4") ∷ (codes "0") ∷ (codes "0") ∷ (codes "0") ∷ (codes "0") ∷ (codes "0") ∷ (codes "0") ∷ (codes "0") ∷ (codes "0") ∷ (codes "0") ∷ (codes "0") ∷ (codes "0") ∷ (codes "0") ∷ (codes "0") ∷ (codes "4") ∷ (codes "0") ∷ (codes "0") ∷ (codes "0") ∷ (codes "502") ∷ (codes "151") ∷ (codes "100") ∷ (codes "151") ∷ (codes "151") ∷ []) ∷ [])
+unfolding reading_on_literals running_on_literals columns_of
+case_0_copies_of_a_producer_and_a_consumer = refl
+
+-- version-3/copies_of_a_producer_with_a_timer.toml
+case_0_copies_of_a_producer_with_a_timer : shown_upto 3 66 [] (codes "# The messages of both copies are delayed for a second, each from its own send on. Both copies stop at 150, before they have\n# sent five messages.\nversion = 3\nhorizon = 1050\n[[queue]]\nname = \"q\"\n[[actor]]\nname = \"p\"\nkind = \"producer\"\nqueue = \"q\"\ncount = 5\ngap_min_ms = 100\ngap_max_ms = 100\nbody = \"{n}\"\ndelay_s = 1\nstop_ms = 150\ncopies = 2\n")
+    ≡ ran (((codes "at") ∷ (codes "queue") ∷ (codes "agent") ∷ (codes "call") ∷ (codes "answer") ∷ (codes "message") ∷ (codes "receipt") ∷ (codes "detail") ∷ []) ∷
+    ((codes "0") ∷ (codes "q") ∷ (codes "p-1") ∷ (codes "send") ∷ (codes "new") ∷ (codes "m-0-0") ∷ [] ∷ digest (codes "0") ∷ []) ∷
+    ((codes "0") ∷ (codes "q") ∷ (codes "p-2") ∷ (codes "send") ∷ (codes "new") ∷ (codes "m-0-1") ∷ [] ∷ digest (codes "0") ∷ []) ∷
+    ((codes "100") ∷ (codes "q") ∷ (codes "p-1") ∷ (codes "send") ∷ (codes "new") ∷ (codes "m-0-2") ∷ [] ∷ digest (codes "1") ∷ []) ∷
+    ((codes "100") ∷ (codes "q") ∷ (codes "p-2") ∷ (codes "send") ∷ (codes "new") ∷ (codes "m-0-3") ∷ [] ∷ digest (codes "1") ∷ []) ∷
+    ((codes "1000") ∷ (codes "q") ∷ (codes "q") ∷ (codes "release") ∷ (codes "visible") ∷ (codes "m-0-0") ∷ [] ∷ [] ∷ []) ∷
+    ((codes "1000") ∷ (codes "q") ∷ (codes "q") ∷ (codes "release") ∷ (codes "visible") ∷ (codes "m-0-1") ∷ [] ∷ [] ∷ []) ∷
+    ((codes "final") ∷ (codes "queue") ∷ (codes "message") ∷ (codes "origin") ∷ (codes "place") ∷ (codes "due") ∷ (codes "enqueued") ∷ (codes "receives") ∷ (codes "group") ∷ (codes "md5") ∷ []) ∷
+    ((codes "final") ∷ (codes "q") ∷ (codes "m-0-0") ∷ (codes "o-0-0") ∷ (codes "visible") ∷ [] ∷ (codes "0") ∷ (codes "0") ∷ [] ∷ digest (codes "0") ∷ []) ∷
+    ((codes "final") ∷ (codes "q") ∷ (codes "m-0-1") ∷ (codes "o-0-1") ∷ (codes "visible") ∷ [] ∷ (codes "0") ∷ (codes "0") ∷ [] ∷ digest (codes "0") ∷ []) ∷
+    ((codes "final") ∷ (codes "q") ∷ (codes "m-0-2") ∷ (codes "o-0-2") ∷ (codes "delayed") ∷ (codes "1100") ∷ (codes "100") ∷ (codes "0") ∷ [] ∷ digest (codes "1") ∷ []) ∷
+    ((codes "final") ∷ (codes "q") ∷ (codes "m-0-3") ∷ (codes "o-0-3") ∷ (codes "delayed") ∷ (codes "1100") ∷ (codes "100") ∷ (codes "0") ∷ [] ∷ digest (codes "1") ∷ []) ∷
+    ((codes "transfer") ∷ (codes "from") ∷ (codes "to") ∷ (codes "kind") ∷ (codes "due") ∷ (codes "number") ∷ (codes "message") ∷ (codes "origin") ∷ (codes "md5") ∷ []) ∷
+    ((codes "task") ∷ (codes "name") ∷ (codes "status") ∷ (codes "moved") ∷ []) ∷
+    ((codes "report") ∷ (codes "queue") ∷ (codes "sends") ∷ (codes "repeats") ∷ (codes "receives") ∷ (codes "empties") ∷ (codes "deletes") ∷ (codes "expiries") ∷ (codes "redrives") ∷ (codes "moves") ∷ (codes "arrivals") ∷ (codes "OverLimit") ∷ (codes "MessageNotInflight") ∷ (codes "ReceiptHandleIsInvalid") ∷ (codes "BadTimeout") ∷ (codes "MissingGroup") ∷ (codes "MissingDeduplication") ∷ (codes "BadDelay") ∷ (codes "TaskRunning") ∷ (codes "NoTask") ∷ (codes "depth_max") ∷ (codes "visible") ∷ (codes "in_flight") ∷ (codes "delayed") ∷ (codes "age_sum") ∷ (codes "age_max") ∷ (codes "age_p50") ∷ (codes "age_p95") ∷ (codes "age_p99") ∷ []) ∷
+    ((codes "report") ∷ (codes "q") ∷ (codes "4") ∷ (codes "0") ∷ (codes "0") ∷ (codes "0") ∷ (codes "0") ∷ (codes "0") ∷ (codes "0") ∷ (codes "0") ∷ (codes "0") ∷ (codes "0") ∷ (codes "0") ∷ (codes "0") ∷ (codes "0") ∷ (codes "0") ∷ (codes "0") ∷ (codes "0") ∷ (codes "0") ∷ (codes "0") ∷ (codes "4") ∷ (codes "2") ∷ (codes "0") ∷ (codes "2") ∷ (codes "0") ∷ [] ∷ [] ∷ [] ∷ [] ∷ []) ∷ [])
+unfolding reading_on_literals running_on_literals columns_of
+case_0_copies_of_a_producer_with_a_timer = refl
+
 -- version-3/copies_of_two_tables.toml
 case_0_copies_of_two_tables : shown_upto 3 65 [] (codes "# Agents: a-1 is 1, b-1 is 2, then a-2 and a-3 are 3 and 4, and b-2 is 5. All ask at 0, in this order.\nversion = 3\nhorizon = 500\n[[queue]]\nname = \"q\"\n[[actor]]\nname = \"a\"\nkind = \"consumer\"\nqueue = \"q\"\nservice_min_ms = 1\nservice_max_ms = 1\ncopies = 3\n[[actor]]\nname = \"b\"\nkind = \"consumer\"\nqueue = \"q\"\nservice_min_ms = 1\nservice_max_ms = 1\ncopies = 2\n")
     ≡ ran (((codes "at") ∷ (codes "queue") ∷ (codes "agent") ∷ (codes "call") ∷ (codes "answer") ∷ (codes "message") ∷ (codes "receipt") ∷ (codes "detail") ∷ []) ∷
@@ -1484,6 +1553,19 @@ case_0_once_with_poison_in_second_place : shown_upto 3 82 [] (codes "# m-0-1 is 
 unfolding reading_on_literals running_on_literals columns_of
 case_0_once_with_poison_in_second_place = refl
 
+-- version-3/one_step_up_to_a_million.toml
+case_0_one_step_up_to_a_million : shown_upto 3 62 [] (codes "# Whatever is visible is in the only step, which asks for 1,000 copies: the scaler wants 5. It adds two at once, and none\n# within two seconds after 0 and after a change. Nobody goes by this scaler.\nversion = 3\nhorizon = 4000\n[[queue]]\nname = \"q\"\n[[actor]]\nname = \"x\"\nkind = \"scaler\"\nqueue = \"q\"\nevery_s = 1\nsteps = [[1000000, 1000]]\ncopies_max = 5\nadded_max = 2\ncooldown_out_s = 2\n")
+    ≡ ran (((codes "at") ∷ (codes "queue") ∷ (codes "agent") ∷ (codes "call") ∷ (codes "answer") ∷ (codes "message") ∷ (codes "receipt") ∷ (codes "detail") ∷ []) ∷
+    ((codes "2000") ∷ (codes "q") ∷ (codes "x") ∷ (codes "scale") ∷ (codes "ok") ∷ [] ∷ [] ∷ (codes "1/3") ∷ []) ∷
+    ((codes "4000") ∷ (codes "q") ∷ (codes "x") ∷ (codes "scale") ∷ (codes "ok") ∷ [] ∷ [] ∷ (codes "3/5") ∷ []) ∷
+    ((codes "final") ∷ (codes "queue") ∷ (codes "message") ∷ (codes "origin") ∷ (codes "place") ∷ (codes "due") ∷ (codes "enqueued") ∷ (codes "receives") ∷ (codes "group") ∷ (codes "md5") ∷ []) ∷
+    ((codes "transfer") ∷ (codes "from") ∷ (codes "to") ∷ (codes "kind") ∷ (codes "due") ∷ (codes "number") ∷ (codes "message") ∷ (codes "origin") ∷ (codes "md5") ∷ []) ∷
+    ((codes "task") ∷ (codes "name") ∷ (codes "status") ∷ (codes "moved") ∷ []) ∷
+    ((codes "report") ∷ (codes "queue") ∷ (codes "sends") ∷ (codes "repeats") ∷ (codes "receives") ∷ (codes "empties") ∷ (codes "deletes") ∷ (codes "expiries") ∷ (codes "redrives") ∷ (codes "moves") ∷ (codes "arrivals") ∷ (codes "OverLimit") ∷ (codes "MessageNotInflight") ∷ (codes "ReceiptHandleIsInvalid") ∷ (codes "BadTimeout") ∷ (codes "MissingGroup") ∷ (codes "MissingDeduplication") ∷ (codes "BadDelay") ∷ (codes "TaskRunning") ∷ (codes "NoTask") ∷ (codes "depth_max") ∷ (codes "visible") ∷ (codes "in_flight") ∷ (codes "delayed") ∷ (codes "age_sum") ∷ (codes "age_max") ∷ (codes "age_p50") ∷ (codes "age_p95") ∷ (codes "age_p99") ∷ []) ∷
+    ((codes "report") ∷ (codes "q") ∷ (codes "0") ∷ (codes "0") ∷ (codes "0") ∷ (codes "0") ∷ (codes "0") ∷ (codes "0") ∷ (codes "0") ∷ (codes "0") ∷ (codes "0") ∷ (codes "0") ∷ (codes "0") ∷ (codes "0") ∷ (codes "0") ∷ (codes "0") ∷ (codes "0") ∷ (codes "0") ∷ (codes "0") ∷ (codes "0") ∷ (codes "0") ∷ (codes "0") ∷ (codes "0") ∷ (codes "0") ∷ (codes "0") ∷ [] ∷ [] ∷ [] ∷ [] ∷ []) ∷ [])
+unfolding reading_on_literals running_on_literals columns_of
+case_0_one_step_up_to_a_million = refl
+
 -- version-3/outage.toml
 case_0_outage : shown_upto 3 74 [] (codes "# Services of c end at 200 (the outage begins: fails), 300 (fails) and 400 (the outage is over). That of d ends at 199.\nversion = 3\nhorizon = 1000\n[[queue]]\nname = \"q\"\n[[queue]]\nname = \"p\"\n[[actor]]\nname = \"c\"\nkind = \"consumer\"\nqueue = \"q\"\nstart_ms = 100\nbatch = 3\nwait_s = 20\nservice_min_ms = 100\nservice_max_ms = 100\nfails_from_ms = 200\nfails_to_ms = 400\n[[actor]]\nname = \"d\"\nkind = \"consumer\"\nqueue = \"p\"\nstart_ms = 99\nwait_s = 20\nservice_min_ms = 100\nservice_max_ms = 100\nfails_from_ms = 200\nfails_to_ms = 400\n[[actor]]\nname = \"s\"\nkind = \"script\"\nqueue = \"q\"\ncalls = \"\"\"\nat,call,body,group,id,delay,receipt,max,wait,timeout,task\n0,send,a,,,,,,,,\n1,send,b,,,,,,,,\n2,send,c,,,,,,,,\n\"\"\"\n[[actor]]\nname = \"t\"\nkind = \"script\"\nqueue = \"p\"\ncalls = \"\"\"\nat,call,body,group,id,delay,receipt,max,wait,timeout,task\n0,send,a,,,,,,,,\n\"\"\"\n")
     ≡ ran (((codes "at") ∷ (codes "queue") ∷ (codes "agent") ∷ (codes "call") ∷ (codes "answer") ∷ (codes "message") ∷ (codes "receipt") ∷ (codes "detail") ∷ []) ∷
@@ -1803,6 +1885,31 @@ case_0_outages_with_drawn_chances : shown_upto 3 79 [] (codes "# Services end at
     ((codes "report") ∷ (codes "q") ∷ (codes "6") ∷ (codes "0") ∷ (codes "6") ∷ (codes "0") ∷ (codes "3") ∷ (codes "0") ∷ (codes "0") ∷ (codes "0") ∷ (codes "0") ∷ (codes "0") ∷ (codes "0") ∷ (codes "0") ∷ (codes "0") ∷ (codes "0") ∷ (codes "0") ∷ (codes "0") ∷ (codes "0") ∷ (codes "0") ∷ (codes "6") ∷ (codes "0") ∷ (codes "3") ∷ (codes "0") ∷ (codes "790") ∷ (codes "345") ∷ (codes "296") ∷ (codes "345") ∷ (codes "345") ∷ []) ∷ [])
 unfolding reading_on_literals running_on_literals columns_of
 case_0_outages_with_drawn_chances = refl
+
+-- version-3/past_the_last_step.toml
+case_0_past_the_last_step : shown_upto 3 74 [] (codes "# At 1,000 three messages are visible, which are past the last step: all three copies are wanted. At 2,000 none is there,\n# and the first step wants no copy. The copies go by the scaler as by one without steps.\nversion = 3\nhorizon = 2500\n[[queue]]\nname = \"q\"\n[[actor]]\nname = \"s\"\nkind = \"script\"\nqueue = \"q\"\ncalls = \"\"\"\nat,call,body,group,id,delay,receipt,max,wait,timeout,task\n500,send,a,,,,,,,,\n501,send,b,,,,,,,,\n502,send,c,,,,,,,,\n\"\"\"\n[[actor]]\nname = \"x\"\nkind = \"scaler\"\nqueue = \"q\"\nevery_s = 1\nsteps = [[0, 0], [2, 1]]\ncopies_min = 0\ncopies_max = 3\n[[actor]]\nname = \"w\"\nkind = \"consumer\"\nqueue = \"q\"\nidle_ms = 2000\nscaler = \"x\"\ncopies = 3\nservice_min_ms = 100\nservice_max_ms = 100\n")
+    ≡ ran (((codes "at") ∷ (codes "queue") ∷ (codes "agent") ∷ (codes "call") ∷ (codes "answer") ∷ (codes "message") ∷ (codes "receipt") ∷ (codes "detail") ∷ []) ∷
+    ((codes "500") ∷ (codes "q") ∷ (codes "s") ∷ (codes "send") ∷ (codes "new") ∷ (codes "m-0-0") ∷ [] ∷ digest (codes "a") ∷ []) ∷
+    ((codes "501") ∷ (codes "q") ∷ (codes "s") ∷ (codes "send") ∷ (codes "new") ∷ (codes "m-0-1") ∷ [] ∷ digest (codes "b") ∷ []) ∷
+    ((codes "502") ∷ (codes "q") ∷ (codes "s") ∷ (codes "send") ∷ (codes "new") ∷ (codes "m-0-2") ∷ [] ∷ digest (codes "c") ∷ []) ∷
+    ((codes "1000") ∷ (codes "q") ∷ (codes "x") ∷ (codes "scale") ∷ (codes "ok") ∷ [] ∷ [] ∷ (codes "0/3") ∷ []) ∷
+    ((codes "1001") ∷ (codes "q") ∷ (codes "w-1") ∷ (codes "receive") ∷ (codes "ok") ∷ (codes "m-0-0") ∷ (codes "r-0-0-1") ∷ (codes "o-0-0") ∷ []) ∷
+    ((codes "1001") ∷ (codes "q") ∷ (codes "w-2") ∷ (codes "receive") ∷ (codes "ok") ∷ (codes "m-0-1") ∷ (codes "r-0-1-1") ∷ (codes "o-0-1") ∷ []) ∷
+    ((codes "1001") ∷ (codes "q") ∷ (codes "w-3") ∷ (codes "receive") ∷ (codes "ok") ∷ (codes "m-0-2") ∷ (codes "r-0-2-1") ∷ (codes "o-0-2") ∷ []) ∷
+    ((codes "1101") ∷ (codes "q") ∷ (codes "w-1") ∷ (codes "delete") ∷ (codes "deleted") ∷ (codes "m-0-0") ∷ (codes "r-0-0-1") ∷ (codes "601") ∷ []) ∷
+    ((codes "1101") ∷ (codes "q") ∷ (codes "w-2") ∷ (codes "delete") ∷ (codes "deleted") ∷ (codes "m-0-1") ∷ (codes "r-0-1-1") ∷ (codes "600") ∷ []) ∷
+    ((codes "1101") ∷ (codes "q") ∷ (codes "w-3") ∷ (codes "delete") ∷ (codes "deleted") ∷ (codes "m-0-2") ∷ (codes "r-0-2-1") ∷ (codes "599") ∷ []) ∷
+    ((codes "1102") ∷ (codes "q") ∷ (codes "w-1") ∷ (codes "receive") ∷ (codes "empty") ∷ [] ∷ [] ∷ [] ∷ []) ∷
+    ((codes "1102") ∷ (codes "q") ∷ (codes "w-2") ∷ (codes "receive") ∷ (codes "empty") ∷ [] ∷ [] ∷ [] ∷ []) ∷
+    ((codes "1102") ∷ (codes "q") ∷ (codes "w-3") ∷ (codes "receive") ∷ (codes "empty") ∷ [] ∷ [] ∷ [] ∷ []) ∷
+    ((codes "2000") ∷ (codes "q") ∷ (codes "x") ∷ (codes "scale") ∷ (codes "ok") ∷ [] ∷ [] ∷ (codes "3/0") ∷ []) ∷
+    ((codes "final") ∷ (codes "queue") ∷ (codes "message") ∷ (codes "origin") ∷ (codes "place") ∷ (codes "due") ∷ (codes "enqueued") ∷ (codes "receives") ∷ (codes "group") ∷ (codes "md5") ∷ []) ∷
+    ((codes "transfer") ∷ (codes "from") ∷ (codes "to") ∷ (codes "kind") ∷ (codes "due") ∷ (codes "number") ∷ (codes "message") ∷ (codes "origin") ∷ (codes "md5") ∷ []) ∷
+    ((codes "task") ∷ (codes "name") ∷ (codes "status") ∷ (codes "moved") ∷ []) ∷
+    ((codes "report") ∷ (codes "queue") ∷ (codes "sends") ∷ (codes "repeats") ∷ (codes "receives") ∷ (codes "empties") ∷ (codes "deletes") ∷ (codes "expiries") ∷ (codes "redrives") ∷ (codes "moves") ∷ (codes "arrivals") ∷ (codes "OverLimit") ∷ (codes "MessageNotInflight") ∷ (codes "ReceiptHandleIsInvalid") ∷ (codes "BadTimeout") ∷ (codes "MissingGroup") ∷ (codes "MissingDeduplication") ∷ (codes "BadDelay") ∷ (codes "TaskRunning") ∷ (codes "NoTask") ∷ (codes "depth_max") ∷ (codes "visible") ∷ (codes "in_flight") ∷ (codes "delayed") ∷ (codes "age_sum") ∷ (codes "age_max") ∷ (codes "age_p50") ∷ (codes "age_p95") ∷ (codes "age_p99") ∷ []) ∷
+    ((codes "report") ∷ (codes "q") ∷ (codes "3") ∷ (codes "0") ∷ (codes "3") ∷ (codes "3") ∷ (codes "3") ∷ (codes "0") ∷ (codes "0") ∷ (codes "0") ∷ (codes "0") ∷ (codes "0") ∷ (codes "0") ∷ (codes "0") ∷ (codes "0") ∷ (codes "0") ∷ (codes "0") ∷ (codes "0") ∷ (codes "0") ∷ (codes "0") ∷ (codes "3") ∷ (codes "0") ∷ (codes "0") ∷ (codes "0") ∷ (codes "1800") ∷ (codes "601") ∷ (codes "600") ∷ (codes "601") ∷ (codes "601") ∷ []) ∷ [])
+unfolding reading_on_literals running_on_literals columns_of
+case_0_past_the_last_step = refl
 
 -- version-3/poison_in_a_fifo_group.toml
 case_0_poison_in_a_fifo_group : shown_upto 3 77 [] (codes "# The poison m-0-0 is first in group g and closes it while it is in flight. So at 111 the consumer gets m-0-2 of group\n# h. m-0-0 fails again at 1110 and leaves for the dead-letter queue at 2010. That opens the group: the waiting poll gets\n# m-0-1 in the same handling.\nversion = 3\nhorizon = 3000\n[[queue]]\nname = \"q.fifo\"\nvisibility_s = 1\ndead_letter = \"d.fifo\"\nmax_receives = 2\nlatency_min_ms = 20\nlatency_max_ms = 20\n[[queue]]\nname = \"d.fifo\"\n[[actor]]\nname = \"c\"\nkind = \"consumer\"\nqueue = \"q.fifo\"\nstart_ms = 10\nwait_s = 20\nservice_min_ms = 100\nservice_max_ms = 100\nfails_on = \"bad\"\n[[actor]]\nname = \"s\"\nkind = \"script\"\nqueue = \"q.fifo\"\ncalls = \"\"\"\nat,call,body,group,id,delay,receipt,max,wait,timeout,task\n0,send,bad,g,1,,,,,,\n1,send,a,g,2,,,,,,\n2,send,b,h,3,,,,,,\n\"\"\"\n")
@@ -2185,6 +2292,53 @@ case_0_service_of_up_to_a_day : shown_upto 3 65 [] (codes "# The longest range: 
     ((codes "report") ∷ (codes "q") ∷ (codes "1") ∷ (codes "0") ∷ (codes "1") ∷ (codes "0") ∷ (codes "1") ∷ (codes "0") ∷ (codes "0") ∷ (codes "0") ∷ (codes "0") ∷ (codes "0") ∷ (codes "0") ∷ (codes "0") ∷ (codes "0") ∷ (codes "0") ∷ (codes "0") ∷ (codes "0") ∷ (codes "0") ∷ (codes "0") ∷ (codes "1") ∷ (codes "0") ∷ (codes "0") ∷ (codes "0") ∷ (codes "72519333") ∷ (codes "72519333") ∷ (codes "72519333") ∷ (codes "72519333") ∷ (codes "72519333") ∷ []) ∷ [])
 unfolding reading_on_literals running_on_literals columns_of
 case_0_service_of_up_to_a_day = refl
+
+-- version-3/steps_one_after_another.toml
+case_0_steps_one_after_another : shown_upto 3 70 [] (codes "# Up to 1 visible message the scaler wants no copy, up to 3 two copies, and up to 5 five. At 1,000 there is 1, at 2,000 2,\n# at 3,000 3, at 4,000 4, and at 5,000 1 again. Nobody goes by this scaler.\nversion = 3\nhorizon = 5500\n[[queue]]\nname = \"q\"\n[[actor]]\nname = \"x\"\nkind = \"scaler\"\nqueue = \"q\"\nevery_s = 1\nsteps = [[1, 0], [3, 2], [5, 5]]\ncopies_min = 0\ncopies_max = 7\n[[actor]]\nname = \"s\"\nkind = \"script\"\nqueue = \"q\"\ncalls = \"\"\"\nat,call,body,group,id,delay,receipt,max,wait,timeout,task\n500,send,a,,,,,,,,\n1500,send,b,,,,,,,,\n2500,send,c,,,,,,,,\n3500,send,d,,,,,,,,\n4500,receive,,,,,,3,,,\n\"\"\"\n")
+    ≡ ran (((codes "at") ∷ (codes "queue") ∷ (codes "agent") ∷ (codes "call") ∷ (codes "answer") ∷ (codes "message") ∷ (codes "receipt") ∷ (codes "detail") ∷ []) ∷
+    ((codes "500") ∷ (codes "q") ∷ (codes "s") ∷ (codes "send") ∷ (codes "new") ∷ (codes "m-0-0") ∷ [] ∷ digest (codes "a") ∷ []) ∷
+    ((codes "1500") ∷ (codes "q") ∷ (codes "s") ∷ (codes "send") ∷ (codes "new") ∷ (codes "m-0-1") ∷ [] ∷ digest (codes "b") ∷ []) ∷
+    ((codes "2000") ∷ (codes "q") ∷ (codes "x") ∷ (codes "scale") ∷ (codes "ok") ∷ [] ∷ [] ∷ (codes "0/2") ∷ []) ∷
+    ((codes "2500") ∷ (codes "q") ∷ (codes "s") ∷ (codes "send") ∷ (codes "new") ∷ (codes "m-0-2") ∷ [] ∷ digest (codes "c") ∷ []) ∷
+    ((codes "3500") ∷ (codes "q") ∷ (codes "s") ∷ (codes "send") ∷ (codes "new") ∷ (codes "m-0-3") ∷ [] ∷ digest (codes "d") ∷ []) ∷
+    ((codes "4000") ∷ (codes "q") ∷ (codes "x") ∷ (codes "scale") ∷ (codes "ok") ∷ [] ∷ [] ∷ (codes "2/5") ∷ []) ∷
+    ((codes "4500") ∷ (codes "q") ∷ (codes "s") ∷ (codes "receive") ∷ (codes "ok") ∷ (codes "m-0-0") ∷ (codes "r-0-0-1") ∷ (codes "o-0-0") ∷ []) ∷
+    ((codes "4500") ∷ (codes "q") ∷ (codes "s") ∷ (codes "receive") ∷ (codes "ok") ∷ (codes "m-0-1") ∷ (codes "r-0-1-1") ∷ (codes "o-0-1") ∷ []) ∷
+    ((codes "4500") ∷ (codes "q") ∷ (codes "s") ∷ (codes "receive") ∷ (codes "ok") ∷ (codes "m-0-2") ∷ (codes "r-0-2-1") ∷ (codes "o-0-2") ∷ []) ∷
+    ((codes "5000") ∷ (codes "q") ∷ (codes "x") ∷ (codes "scale") ∷ (codes "ok") ∷ [] ∷ [] ∷ (codes "5/0") ∷ []) ∷
+    ((codes "final") ∷ (codes "queue") ∷ (codes "message") ∷ (codes "origin") ∷ (codes "place") ∷ (codes "due") ∷ (codes "enqueued") ∷ (codes "receives") ∷ (codes "group") ∷ (codes "md5") ∷ []) ∷
+    ((codes "final") ∷ (codes "q") ∷ (codes "m-0-0") ∷ (codes "o-0-0") ∷ (codes "inflight") ∷ (codes "34500") ∷ (codes "500") ∷ (codes "1") ∷ [] ∷ digest (codes "a") ∷ []) ∷
+    ((codes "final") ∷ (codes "q") ∷ (codes "m-0-1") ∷ (codes "o-0-1") ∷ (codes "inflight") ∷ (codes "34500") ∷ (codes "1500") ∷ (codes "1") ∷ [] ∷ digest (codes "b") ∷ []) ∷
+    ((codes "final") ∷ (codes "q") ∷ (codes "m-0-2") ∷ (codes "o-0-2") ∷ (codes "inflight") ∷ (codes "34500") ∷ (codes "2500") ∷ (codes "1") ∷ [] ∷ digest (codes "c") ∷ []) ∷
+    ((codes "final") ∷ (codes "q") ∷ (codes "m-0-3") ∷ (codes "o-0-3") ∷ (codes "visible") ∷ [] ∷ (codes "3500") ∷ (codes "0") ∷ [] ∷ digest (codes "d") ∷ []) ∷
+    ((codes "transfer") ∷ (codes "from") ∷ (codes "to") ∷ (codes "kind") ∷ (codes "due") ∷ (codes "number") ∷ (codes "message") ∷ (codes "origin") ∷ (codes "md5") ∷ []) ∷
+    ((codes "task") ∷ (codes "name") ∷ (codes "status") ∷ (codes "moved") ∷ []) ∷
+    ((codes "report") ∷ (codes "queue") ∷ (codes "sends") ∷ (codes "repeats") ∷ (codes "receives") ∷ (codes "empties") ∷ (codes "deletes") ∷ (codes "expiries") ∷ (codes "redrives") ∷ (codes "moves") ∷ (codes "arrivals") ∷ (codes "OverLimit") ∷ (codes "MessageNotInflight") ∷ (codes "ReceiptHandleIsInvalid") ∷ (codes "BadTimeout") ∷ (codes "MissingGroup") ∷ (codes "MissingDeduplication") ∷ (codes "BadDelay") ∷ (codes "TaskRunning") ∷ (codes "NoTask") ∷ (codes "depth_max") ∷ (codes "visible") ∷ (codes "in_flight") ∷ (codes "delayed") ∷ (codes "age_sum") ∷ (codes "age_max") ∷ (codes "age_p50") ∷ (codes "age_p95") ∷ (codes "age_p99") ∷ []) ∷
+    ((codes "report") ∷ (codes "q") ∷ (codes "4") ∷ (codes "0") ∷ (codes "3") ∷ (codes "0") ∷ (codes "0") ∷ (codes "0") ∷ (codes "0") ∷ (codes "0") ∷ (codes "0") ∷ (codes "0") ∷ (codes "0") ∷ (codes "0") ∷ (codes "0") ∷ (codes "0") ∷ (codes "0") ∷ (codes "0") ∷ (codes "0") ∷ (codes "0") ∷ (codes "4") ∷ (codes "1") ∷ (codes "3") ∷ (codes "0") ∷ (codes "0") ∷ [] ∷ [] ∷ [] ∷ [] ∷ []) ∷ [])
+unfolding reading_on_literals running_on_literals columns_of
+case_0_steps_one_after_another = refl
+
+-- version-3/steps_outside_of_the_bounds.toml
+case_0_steps_outside_of_the_bounds : shown_upto 3 68 [] (codes "# No visible message asks for no copy, but copies_min is 2. One or two ask for four copies, but copies_max is 3. Steps need\n# not ascend in copies: three messages ask for one copy, of which copies_min makes two again. Nobody goes by this scaler.\nversion = 3\nhorizon = 3500\n[[queue]]\nname = \"q\"\n[[actor]]\nname = \"x\"\nkind = \"scaler\"\nqueue = \"q\"\nevery_s = 1\nsteps = [[0, 0], [2, 4], [9, 1]]\ncopies_min = 2\ncopies_max = 3\n[[actor]]\nname = \"s\"\nkind = \"script\"\nqueue = \"q\"\ncalls = \"\"\"\nat,call,body,group,id,delay,receipt,max,wait,timeout,task\n500,send,a,,,,,,,,\n1500,send,b,,,,,,,,\n1501,send,c,,,,,,,,\n2500,receive,,,,,,10,,,\n\"\"\"\n")
+    ≡ ran (((codes "at") ∷ (codes "queue") ∷ (codes "agent") ∷ (codes "call") ∷ (codes "answer") ∷ (codes "message") ∷ (codes "receipt") ∷ (codes "detail") ∷ []) ∷
+    ((codes "500") ∷ (codes "q") ∷ (codes "s") ∷ (codes "send") ∷ (codes "new") ∷ (codes "m-0-0") ∷ [] ∷ digest (codes "a") ∷ []) ∷
+    ((codes "1000") ∷ (codes "q") ∷ (codes "x") ∷ (codes "scale") ∷ (codes "ok") ∷ [] ∷ [] ∷ (codes "2/3") ∷ []) ∷
+    ((codes "1500") ∷ (codes "q") ∷ (codes "s") ∷ (codes "send") ∷ (codes "new") ∷ (codes "m-0-1") ∷ [] ∷ digest (codes "b") ∷ []) ∷
+    ((codes "1501") ∷ (codes "q") ∷ (codes "s") ∷ (codes "send") ∷ (codes "new") ∷ (codes "m-0-2") ∷ [] ∷ digest (codes "c") ∷ []) ∷
+    ((codes "2000") ∷ (codes "q") ∷ (codes "x") ∷ (codes "scale") ∷ (codes "ok") ∷ [] ∷ [] ∷ (codes "3/2") ∷ []) ∷
+    ((codes "2500") ∷ (codes "q") ∷ (codes "s") ∷ (codes "receive") ∷ (codes "ok") ∷ (codes "m-0-0") ∷ (codes "r-0-0-1") ∷ (codes "o-0-0") ∷ []) ∷
+    ((codes "2500") ∷ (codes "q") ∷ (codes "s") ∷ (codes "receive") ∷ (codes "ok") ∷ (codes "m-0-1") ∷ (codes "r-0-1-1") ∷ (codes "o-0-1") ∷ []) ∷
+    ((codes "2500") ∷ (codes "q") ∷ (codes "s") ∷ (codes "receive") ∷ (codes "ok") ∷ (codes "m-0-2") ∷ (codes "r-0-2-1") ∷ (codes "o-0-2") ∷ []) ∷
+    ((codes "final") ∷ (codes "queue") ∷ (codes "message") ∷ (codes "origin") ∷ (codes "place") ∷ (codes "due") ∷ (codes "enqueued") ∷ (codes "receives") ∷ (codes "group") ∷ (codes "md5") ∷ []) ∷
+    ((codes "final") ∷ (codes "q") ∷ (codes "m-0-0") ∷ (codes "o-0-0") ∷ (codes "inflight") ∷ (codes "32500") ∷ (codes "500") ∷ (codes "1") ∷ [] ∷ digest (codes "a") ∷ []) ∷
+    ((codes "final") ∷ (codes "q") ∷ (codes "m-0-1") ∷ (codes "o-0-1") ∷ (codes "inflight") ∷ (codes "32500") ∷ (codes "1500") ∷ (codes "1") ∷ [] ∷ digest (codes "b") ∷ []) ∷
+    ((codes "final") ∷ (codes "q") ∷ (codes "m-0-2") ∷ (codes "o-0-2") ∷ (codes "inflight") ∷ (codes "32500") ∷ (codes "1501") ∷ (codes "1") ∷ [] ∷ digest (codes "c") ∷ []) ∷
+    ((codes "transfer") ∷ (codes "from") ∷ (codes "to") ∷ (codes "kind") ∷ (codes "due") ∷ (codes "number") ∷ (codes "message") ∷ (codes "origin") ∷ (codes "md5") ∷ []) ∷
+    ((codes "task") ∷ (codes "name") ∷ (codes "status") ∷ (codes "moved") ∷ []) ∷
+    ((codes "report") ∷ (codes "queue") ∷ (codes "sends") ∷ (codes "repeats") ∷ (codes "receives") ∷ (codes "empties") ∷ (codes "deletes") ∷ (codes "expiries") ∷ (codes "redrives") ∷ (codes "moves") ∷ (codes "arrivals") ∷ (codes "OverLimit") ∷ (codes "MessageNotInflight") ∷ (codes "ReceiptHandleIsInvalid") ∷ (codes "BadTimeout") ∷ (codes "MissingGroup") ∷ (codes "MissingDeduplication") ∷ (codes "BadDelay") ∷ (codes "TaskRunning") ∷ (codes "NoTask") ∷ (codes "depth_max") ∷ (codes "visible") ∷ (codes "in_flight") ∷ (codes "delayed") ∷ (codes "age_sum") ∷ (codes "age_max") ∷ (codes "age_p50") ∷ (codes "age_p95") ∷ (codes "age_p99") ∷ []) ∷
+    ((codes "report") ∷ (codes "q") ∷ (codes "3") ∷ (codes "0") ∷ (codes "3") ∷ (codes "0") ∷ (codes "0") ∷ (codes "0") ∷ (codes "0") ∷ (codes "0") ∷ (codes "0") ∷ (codes "0") ∷ (codes "0") ∷ (codes "0") ∷ (codes "0") ∷ (codes "0") ∷ (codes "0") ∷ (codes "0") ∷ (codes "0") ∷ (codes "0") ∷ (codes "3") ∷ (codes "0") ∷ (codes "3") ∷ (codes "0") ∷ (codes "0") ∷ [] ∷ [] ∷ [] ∷ [] ∷ []) ∷ [])
+unfolding reading_on_literals running_on_literals columns_of
+case_0_steps_outside_of_the_bounds = refl
 
 -- version-3/stop_before_a_failure.toml
 case_0_stop_before_a_failure : shown_upto 3 65 [] (codes "# The service that goes on at the stop of 50 fails at 110, and its message gets the backoff. It comes back at 1110, and\n# nobody asks for it.\nversion = 3\nhorizon = 3000\n[[queue]]\nname = \"q\"\n[[actor]]\nname = \"c\"\nkind = \"consumer\"\nqueue = \"q\"\nstart_ms = 10\nservice_min_ms = 100\nservice_max_ms = 100\nfail_permille = 1000\nstop_ms = 50\nbackoff_s = [1]\n[[actor]]\nname = \"s\"\nkind = \"script\"\nqueue = \"q\"\ncalls = \"\"\"\nat,call,body,group,id,delay,receipt,max,wait,timeout,task\n0,send,a,,,,,,,,\n\"\"\"\n")

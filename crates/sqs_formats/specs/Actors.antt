@@ -30,6 +30,7 @@ use Rattle.sqs_formats.specs.Groups.{groups, groups_key}
 use Rattle.sqs_formats.specs.Names.{is_agent_name, is_script_name}
 use Rattle.sqs_formats.specs.Copies.{copy_names}
 use Rattle.sqs_formats.specs.Outages.{outage_keys, outages}
+use Rattle.sqs_formats.specs.Targets.{target, target_keys}
 use Rattle.sqs_formats.specs.Outline.{Outline, actor_place, first_task, is_fresh, name_of, queue_named, kins_named, scaler_named, second_copy, kind_at, queue_text}
 use Rattle.sqs_formats.specs.Queues.{latency_keys, latency}
 use Rattle.sqs_formats.specs.Script.{script}
@@ -141,7 +142,7 @@ stopping start t = maybe (integer start 2592000000) t (codes "stop_ms")
 
 -- the keys that producers have from version 3 on
 abbrev pub newer_producer_keys : ℕ → List (List ℕ)
-newer_producer_keys version = if nat_le 3 version then codes "stop_ms" ∷ [] else []
+newer_producer_keys version = if nat_le 3 version then codes "stop_ms" ∷ codes "copies" ∷ [] else []
 
 -- all keys of a producer
 abbrev pub all_producer_keys : ℕ → Bool → Table → List (List ℕ)
@@ -332,20 +333,24 @@ consuming o home index t = do
     heartbeat = fails.heartbeat;
   }))
 
--- the keys of a scaler
+-- the keys of every scaler
 abbrev pub scaler_keys : List (List ℕ)
 scaler_keys =
-    codes "start_ms" ∷ codes "every_s" ∷ codes "reading_s" ∷ codes "visible_per_copy" ∷ codes "copies_min" ∷ codes "copies_max" ∷ codes "added_max" ∷ codes "taken_max" ∷ codes "cooldown_out_s" ∷ codes "cooldown_in_s"
+    codes "start_ms" ∷ codes "every_s" ∷ codes "reading_s" ∷ codes "copies_min" ∷ codes "copies_max" ∷ codes "added_max" ∷ codes "taken_max" ∷ codes "cooldown_out_s" ∷ codes "cooldown_in_s"
     ∷ []
+
+-- all keys of a scaler
+abbrev pub all_scaler_keys : Table → List (List ℕ)
+all_scaler_keys t = actor_keys ++ (scaler_keys ++ target_keys (has t (codes "steps")))
 
 -- an actor that says how many copies of consumers ask for messages
 abbrev pub scaler : Table → Says Role
 scaler t = do
-  known ← only (actor_keys ++ scaler_keys) t
+  known ← only (all_scaler_keys t) t
   start ← optional 0 (integer 0 2592000000) t (codes "start_ms")
   every ← required (integer 1 86400) t (codes "every_s")
   reading ← optional 0 (integer 0 (every - 1)) t (codes "reading_s")
-  target ← required (integer 1 1000000) t (codes "visible_per_copy")
+  target ← target t
   least ← optional 1 (integer 0 1000) t (codes "copies_min")
   most ← required (integer least 1000) t (codes "copies_max")
   most_added ← optional 1000 (integer 1 1000) t (codes "added_max")

@@ -9,6 +9,7 @@ pub mod Queues
 pub mod Script
 pub mod Groups
 pub mod Outages
+pub mod Targets
 pub mod Actors
 pub mod Tasks
 pub mod Scenario

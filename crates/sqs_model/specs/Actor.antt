@@ -21,8 +21,11 @@ use Rattle.sqs_model.specs.declared.agents.Outage.{Outage}
 use Rattle.sqs_model.specs.declared.acts.Standing.{Standing}
 use Rattle.sqs_model.specs.declared.agents.ScalerSettings.{ScalerSettings}
 use Rattle.sqs_model.specs.declared.agents.Scaling.{Scaling}
+use Rattle.sqs_model.specs.declared.agents.ScalingStep.{ScalingStep}
 use Rattle.sqs_model.specs.declared.agents.Serving.{Serving}
 use Rattle.sqs_model.specs.declared.agents.Serving.TheVariants.{Each, Once}
+use Rattle.sqs_model.specs.declared.agents.Target.{Target}
+use Rattle.sqs_model.specs.declared.agents.Target.TheVariants.{PerCopy, Steps}
 use Rattle.sqs_model.specs.declared.agents.Stretch.{Stretch}
 use Rattle.sqs_model.specs.declared.agents.Role.TheVariants.{Consumer, Producer, Scaler, Script}
 use Rattle.sqs_redrive.specs.declared.answers.Got.{Got}
@@ -385,9 +388,19 @@ copy_wake None a c now st = consumer_wake a c now a.held
 copy_wake (Some s) a c now st =
     if has_nothing a then copy_rests (is_wanted s st.number a) s a c now st.next else consumer_wake a c now a.held
 
--- how many copies a scaler wants for so many visible messages: one for each target, within its bounds
+-- how many copies steps ask for: as many as the first that has so many visible messages, and past the last one the most
+abbrev pub copies_up_to : List ScalingStep → ℕ → ℕ → ℕ
+copies_up_to [] most visible = most
+copies_up_to (s ∷ ss) most visible = if nat_le visible s.visible then s.copies else copies_up_to ss most visible
+
+-- how many copies so many visible messages ask for: one for each so many of them, or by steps
+abbrev pub asked_for : Target → ℕ → ℕ → ℕ
+asked_for (PerCopy messages) most visible = div_ceil visible messages
+asked_for (Steps steps) most visible = copies_up_to steps most visible
+
+-- how many copies a scaler wants for so many visible messages, within its bounds
 abbrev pub wanted_for : ScalerSettings → ℕ → ℕ
-wanted_for s visible = min s.most (max s.least (div_ceil visible s.target))
+wanted_for s visible = min s.most (max s.least (asked_for s.target s.most visible))
 
 -- how many copies it adds or takes away of those that it lacks or has too many: none in a cooldown after the last change
 abbrev pub changed_by : ℕ → Bool → ℕ → ℕ

@@ -13,6 +13,8 @@ use Rattle.sqs_model.specs.declared.agents.ScalerSettings.{ScalerSettings}
 use Rattle.sqs_model.specs.declared.agents.Scaling.{Scaling}
 use Rattle.sqs_model.specs.declared.agents.Serving.{Serving}
 use Rattle.sqs_model.specs.declared.agents.Serving.TheVariants.{Each, Once}
+use Rattle.sqs_model.specs.declared.agents.Target.{Target}
+use Rattle.sqs_model.specs.declared.agents.Target.TheVariants.{PerCopy, Steps}
 use Rattle.sqs_model.specs.declared.agents.WeightedGroup.{WeightedGroup}
 use Rattle.sqs_redrive.specs.declared.settings.Kind.{Kind}
 use Rattle.sqs_redrive.specs.declared.settings.Kind.TheVariants.{Fifo, Standard}
@@ -164,13 +166,18 @@ abbrev pub MayBeScaling : Option Scaling → Type 0
 MayBeScaling None = Unit {0}
 MayBeScaling (Some s) = s.start ≤ 86400000
 
--- a scaler that reads every second to every day, and decides by a number that is younger than that; it wants a copy for
--- each 1 to 1,000,000 visible messages, from its least to its most copies, which are at most 1,000
+-- a copy for each 1 to 1,000,000 visible messages; steps may be any
+abbrev pub IsTarget : Target → Type 0
+IsTarget (PerCopy messages) = Between 1 1000000 messages
+IsTarget (Steps steps) = Unit {0}
+
+-- a scaler that reads every second to every day, and decides by a number that is younger than that; it wants as many
+-- copies as its target says, from its least to its most, which are at most 1,000
 pub record IsScaler (s : ScalerSettings) : Type 0 where
   pub start : s.start ≤ 2592000000
   pub every : Between 1000 86400000 s.every
   pub reading : s.reading < s.every
-  pub target : Between 1 1000000 s.target
+  pub target : IsTarget s.target
   pub ordered : s.least ≤ s.most
   pub most : s.most ≤ 1000
   pub most_added : Between 1 1000 s.most_added

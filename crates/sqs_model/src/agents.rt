@@ -148,9 +148,27 @@ pub struct ConsumerSettings {
     pub heartbeat: Option<u64>,
 }
 
+/// A step of a scaler: how many copies it wants while few enough messages are visible.
+#[derive(Clone, Copy, Debug, PartialEq, Eq)]
+pub struct ScalingStep {
+    /// Up to how many visible messages.
+    pub visible: u64,
+    pub copies: u64,
+}
+
+/// How many copies a scaler wants.
+#[derive(Drop)]
+pub enum Target {
+    /// One for each of so many visible messages.
+    PerCopy(u64),
+    /// As many as the first step says that has so many visible messages, and past the last one as many
+    /// as there may be.
+    Steps(Listed<ScalingStep>),
+}
+
 /// Settings of a scaler, which says how many copies of consumers at its queue ask for messages. Times
 /// are milliseconds.
-#[derive(Clone, Copy, Debug, PartialEq, Eq)]
+#[derive(Drop)]
 pub struct ScalerSettings {
     /// When it first reads how many messages are visible.
     pub start: u64,
@@ -158,8 +176,8 @@ pub struct ScalerSettings {
     pub every: u64,
     /// How old a reading is when it decides by it, as numbers are that CloudWatch shows.
     pub reading: u64,
-    /// How many visible messages it wants for each copy.
-    pub target: u64,
+    /// How many copies it wants.
+    pub target: Target,
     /// The fewest copies.
     pub least: u32,
     /// The most copies.

@@ -13,7 +13,7 @@ mod outbounds;
 pub use acts::{Act, Answer, Standing};
 pub use agents::{
     ActorSettings, ConsumerSettings, Distribution, Forwarding, Groups, Outage, ProducerSettings,
-    Quantile, Role, ScalerSettings, Scaling, Serving, Stretch, WeightedGroup,
+    Quantile, Role, ScalerSettings, Scaling, ScalingStep, Serving, Stretch, Target, WeightedGroup,
 };
 pub use finals::{
     FinalMessage, FinalMessages, FinalTask, FinalTasks, FinalTransfer, FinalTransfers, Finals,

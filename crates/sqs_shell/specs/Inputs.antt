@@ -12,9 +12,9 @@ use Rattle.sqs_shell.specs.declared.faults.Stop.TheVariants as stops
 use Rattle.sqs_shell.specs.declared.files.InputError.{InputError}
 use Rattle.sqs_shell.specs.declared.files.InputError.TheVariants as errors
 
--- the newest version of scenarios that is read: the preview if it is asked for
+-- the newest version of scenarios that is read: version 3 if it is asked for
 abbrev pub newest_of : Bool → Newest
-newest_of preview = if preview then Preview else Released
+newest_of version_3 = if version_3 then Preview else Released
 
 -- the path of a script: its name in the folder, which is . if none is given
 abbrev pub script_path : Option (List ℕ) → List ℕ → List ℕ

@@ -7,7 +7,7 @@ use std::process::ExitCode;
 
 // Reads a scenario and prints how many queues, actors and tasks it has.
 fn checked<'a>(rt: &HostRuntime, asked: CheckLine<'a>) -> Result<(), Stop<'a>> {
-    let inputs = read_inputs(rt, asked.scenario, asked.scripts, asked.preview)?;
+    let inputs = read_inputs(rt, asked.scenario, asked.scripts, asked.version_3)?;
     let Inputs { draft, scripts } = inputs;
     let scenario = draft.read(rt.alloc(), &scripts)?;
     let queues = scenario.queues().len();

@@ -11,17 +11,17 @@ fn scenario<'a>(
     rt: &HostRuntime,
     path: Option<&'a str>,
     folder: Option<&str>,
-    preview: bool,
+    version_3: bool,
 ) -> Result<Scenario, Stop<'a>> {
-    let Inputs { draft, scripts } = read_inputs(rt, path, folder, preview)?;
+    let Inputs { draft, scripts } = read_inputs(rt, path, folder, version_3)?;
     Ok(draft.read(rt.alloc(), &scripts)?)
 }
 
 // Runs both scenarios and prints the comparison.
 fn compared<'a>(rt: &HostRuntime, asked: CompareLine<'a>) -> Result<(), Stop<'a>> {
     let alloc = rt.alloc();
-    let first = scenario(rt, asked.first, asked.scripts, asked.preview)?;
-    let second = scenario(rt, asked.second, asked.scripts, asked.preview)?;
+    let first = scenario(rt, asked.first, asked.scripts, asked.version_3)?;
+    let second = scenario(rt, asked.second, asked.scripts, asked.version_3)?;
     let first = Outcome::of(alloc, first)?;
     let second = Outcome::of(alloc, second)?;
     let mut out = buffered(rt, rt.stdout())?;

@@ -46,7 +46,12 @@ fn figures_of<'a, R: Read + Drop>(
 
 // Reads a scenario and a log, and prints the figures of the log.
 fn printed<'a>(rt: &HostRuntime, asked: FiguresLine<'a>) -> Result<(), Stop<'a>> {
-    let Inputs { draft, scripts } = read_inputs(rt, asked.scenario, asked.scripts, asked.preview)?;
+    let Inputs { draft, scripts } = read_inputs(
+        rt,
+        asked.scenario,
+        asked.scripts,
+        asked.version_3,
+    )?;
     let scenario = draft.read(rt.alloc(), &scripts)?;
     let wanted = wanted_by(asked.wanted);
     let text = match asked.log {

@@ -145,11 +145,11 @@ fn scripts<'a>(
     Ok(Scripts::new(files))
 }
 
-/// The newest version of scenarios that is read, by whether the preview is asked for.
-fn newest(preview: bool) -> Newest
-    ensures { result ≡ newest_of preview }
+/// The newest version of scenarios that is read, by whether version 3 is asked for.
+fn newest(version_3: bool) -> Newest
+    ensures { result ≡ newest_of version_3 }
 {
-    if preview {
+    if version_3 {
         Newest::Preview
     } else {
         Newest::Released
@@ -157,15 +157,15 @@ fn newest(preview: bool) -> Newest
 }
 
 /// Reads a scenario from a file or else from standard input, and its scripts from a folder.
-/// Version 3 is read only if the preview is asked for.
+/// Version 3 is read only if it is asked for.
 pub fn read_inputs<'a>(
     rt: &HostRuntime,
     path: Option<&'a str>,
     folder: Option<&str>,
-    preview: bool,
+    version_3: bool,
 ) -> Result<Inputs, Stop<'a>> {
     let text = scenario(rt, path)?;
-    let draft = Draft::parse_upto(rt.alloc(), newest(preview), text.as_slice())?;
+    let draft = Draft::parse_upto(rt.alloc(), newest(version_3), text.as_slice())?;
     let names = draft.script_names(rt.alloc())?;
     let scripts = scripts(rt, names, folder)?;
     Ok(Inputs { draft, scripts })

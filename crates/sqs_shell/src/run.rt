@@ -57,7 +57,7 @@ fn rehearsed<'a, W: Threads + Wait + Sync>(
     threads: &W,
     asked: RunLine<'a>,
 ) -> Result<(), Stop<'a>> {
-    let inputs = read_inputs(rt, asked.scenario, asked.scripts, asked.preview)?;
+    let inputs = read_inputs(rt, asked.scenario, asked.scripts, asked.version_3)?;
     let split = split(rt.alloc(), asked)?;
     let progress = Progress::new(rt, asked.quiet, asked.log.is_some());
     match asked.log {

@@ -5,6 +5,7 @@ ghost use Rattle.sqs_model.specs.Answers.{most_count};
 ghost use Rattle.sim_actor.specs.Lives.{Decides, DoesNothing, FollowsUp, IsFramed, answer_of, greatest_count};
 
 use super::Actor;
+use crate::life::act_scaling;
 use crate::replies::{FollowUp, Reply};
 use sim_clock::Refusal;
 use sqs_model::{Act, Answer, Role, Standing};
@@ -25,7 +26,10 @@ impl Actor {
                 let home = self.settings.home;
                 self.life.copy_wake(consumer, home, now, standing)
             }
-            Role::Scaler(scaler) => self.life.scaler_wake(scaler, now, standing.number),
+            Role::Scaler(scaler) => {
+                let change = self.life.scaler_wake(scaler, now, standing.number)?;
+                Ok(act_scaling(change))
+            }
         }
     }
 

@@ -385,6 +385,7 @@ impl Life {
     }
 
     // Ends the service of the first message that it holds.
+    #[inline(always)]
     fn end_service(
         &mut self,
         consumer: &ConsumerSettings,

@@ -8,7 +8,7 @@ type Numbers = (Option<u64>, Option<u32>, Option<u32>);
 
 const NONE: Numbers = (None, None, None);
 
-// What a line asks for: its command, its numbers, whether it asks for the preview and whether it is
+// What a line asks for: its command, its numbers, whether it asks for version 3 and whether it is
 // quiet, and its words; or the status with which it is refused.
 type Asked<'a> = Result<(&'static str, Numbers, (bool, bool), [Option<&'a str>; 4]), i32>;
 
@@ -17,21 +17,21 @@ fn asked<'a>(alloc: Global, words: &'a [&'a str]) -> Asked<'a> {
         Ok(Line::Run(run)) => {
             let numbers = (run.window, run.parts, run.workers);
             let words = [run.map, run.log, run.scripts, run.scenario];
-            Ok(("run", numbers, (run.preview, run.quiet), words))
+            Ok(("run", numbers, (run.version_3, run.quiet), words))
         }
         Ok(Line::Check(check)) => {
             let words = [None, None, check.scripts, check.scenario];
-            Ok(("check", NONE, (check.preview, false), words))
+            Ok(("check", NONE, (check.version_3, false), words))
         }
         Ok(Line::Compare(compare)) => {
             let words = [compare.first, compare.second, compare.scripts, None];
-            Ok(("compare", NONE, (compare.preview, false), words))
+            Ok(("compare", NONE, (compare.version_3, false), words))
         }
         Ok(Line::Figures(figures)) => {
             let words = [None, figures.log, figures.scripts, figures.scenario];
             let wanted = figures.wanted;
             let numbers = (wanted.from.or(wanted.to), None, None);
-            Ok(("figures", numbers, (figures.preview, false), words))
+            Ok(("figures", numbers, (figures.version_3, false), words))
         }
         Err(LineFault::Words(error)) => Err(error.exit_code()),
     }
@@ -53,7 +53,7 @@ const LOG: [Option<&str>; 4] = [None, Some("out.csv"), Some("calls"), Some("netw
 const SCENARIO: [Option<&str>; 4] = [None, None, None, Some("network.toml")];
 
 // Lines, and what they ask for.
-const LINES: [(&str, Asked); 16] = [
+const LINES: [(&str, Asked); 20] = [
     (
         "sqs_rehearse run --window 500 --parts 2 --map 0,1 --workers 4 --log out.csv --scripts calls --quiet network.toml",
         Ok(("run", (Some(500), Some(2), Some(4)), (false, true), ALL)),
@@ -69,12 +69,20 @@ const LINES: [(&str, Asked); 16] = [
         )),
     ),
     (
+        "sqs_rehearse run --v3 --preview",
+        Ok(("run", NONE, (true, false), [None; 4])),
+    ),
+    (
         "sqs_rehearse run --preview",
         Ok(("run", NONE, (true, false), [None; 4])),
     ),
     (
         "sqs_rehearse check",
         Ok(("check", NONE, (false, false), [None; 4])),
+    ),
+    (
+        "sqs_rehearse check --v3",
+        Ok(("check", NONE, (true, false), [None; 4])),
     ),
     (
         "sqs_rehearse check --preview",
@@ -85,12 +93,20 @@ const LINES: [(&str, Asked); 16] = [
         Ok(("compare", NONE, (false, false), TWO)),
     ),
     (
+        "sqs_rehearse compare --v3 a.toml b.toml",
+        Ok(("compare", NONE, (true, false), TWO)),
+    ),
+    (
         "sqs_rehearse compare --preview a.toml b.toml",
         Ok(("compare", NONE, (true, false), TWO)),
     ),
     (
         "sqs_rehearse figures --from 0 --scripts calls network.toml out.csv",
         Ok(("figures", (Some(0), None, None), (false, false), LOG)),
+    ),
+    (
+        "sqs_rehearse figures --v3 network.toml",
+        Ok(("figures", NONE, (true, false), SCENARIO)),
     ),
     (
         "sqs_rehearse figures --preview network.toml",

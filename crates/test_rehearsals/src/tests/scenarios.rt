@@ -3,7 +3,7 @@
 use crate::tests::machines::{previewed, scenario};
 use sim_engine::Edge;
 use sim_scenario::{Scenario, edges};
-use sqs_model::{ActorSettings, Outage, Role, ScalerSettings, Scaling, Serving, Stretch};
+use sqs_model::{ActorSettings, Outage, Role, Scaling, Serving, Stretch, Target};
 use std::alloc::Global;
 
 // Whether these are the ways of a scenario.
@@ -105,10 +105,46 @@ fn consumers_of_version_3_are_as_their_keys_say(rt: HostRuntime) {
     }
 }
 
-// Whether an actor is a scaler with these settings.
-fn is_scaler(actor: &ActorSettings, settings: ScalerSettings) -> bool {
+// What a scaler wants: one copy for each of so many messages, or steps.
+#[derive(Clone, Copy)]
+enum Wanted {
+    PerCopy(u64),
+    Steps(&'static [(u64, u64)]),
+}
+
+// Whether a scaler wants that.
+fn is_wanted(target: &Target, wanted: Wanted) -> bool {
+    match (target, wanted) {
+        (Target::PerCopy(messages), Wanted::PerCopy(number)) => *messages == number,
+        (Target::Steps(steps), Wanted::Steps(pairs)) => {
+            let steps = steps.as_slice();
+            steps.len() == pairs.len()
+                && steps
+                    .iter()
+                    .zip(pairs)
+                    .all(|(step, pair)| (step.visible, step.copies) == *pair)
+        }
+        _ => false,
+    }
+}
+
+// Whether an actor is a scaler with these numbers, in the order of its settings, that wants this.
+fn is_scaler(actor: &ActorSettings, numbers: [u64; 9], wanted: Wanted) -> bool {
     match &actor.role {
-        Role::Scaler(scaler) => *scaler == settings,
+        Role::Scaler(scaler) => {
+            let found = [
+                scaler.start,
+                scaler.every,
+                scaler.reading,
+                scaler.least as u64,
+                scaler.most as u64,
+                scaler.most_added as u64,
+                scaler.most_taken as u64,
+                scaler.cooldown_out,
+                scaler.cooldown_in,
+            ];
+            found == numbers && is_wanted(&scaler.target, wanted)
+        }
         _ => false,
     }
 }
@@ -125,8 +161,8 @@ fn is_scaled(actor: &ActorSettings, scaling: Scaling) -> bool {
 fn are_scaled(actors: &[ActorSettings], here: Scaling, there: Scaling) -> bool {
     match actors {
         [first, scaler, worker, other, copy, second, third] => {
-            is_scaler(scaler, EVERY_KEY)
-                && is_scaler(other, FEWEST_KEYS)
+            is_scaler(scaler, EVERY_KEY, Wanted::PerCopy(100))
+                && is_scaler(other, FEWEST_KEYS, Wanted::Steps(&[(0, 1), (70, 9)]))
                 && is_scaled(first, there)
                 && is_scaled(copy, there)
                 && is_scaled(worker, here)
@@ -137,40 +173,17 @@ fn are_scaled(actors: &[ActorSettings], here: Scaling, there: Scaling) -> bool {
     }
 }
 
-// The settings of a scaler with every key.
-const EVERY_KEY: ScalerSettings = ScalerSettings {
-    start: 1,
-    every: 60_000,
-    reading: 20_000,
-    target: 100,
-    least: 2,
-    most: 12,
-    most_added: 4,
-    most_taken: 3,
-    cooldown_out: 30_000,
-    cooldown_in: 300_000,
-};
+// The numbers of a scaler with every key, and of one with as few as there may be.
+const EVERY_KEY: [u64; 9] = [1, 60_000, 20_000, 2, 12, 4, 3, 30_000, 300_000];
 
-// Those of one with as few keys as there may be.
-const FEWEST_KEYS: ScalerSettings = ScalerSettings {
-    start: 0,
-    every: 5000,
-    reading: 0,
-    target: 7,
-    least: 1,
-    most: 9,
-    most_added: 1000,
-    most_taken: 1000,
-    cooldown_out: 0,
-    cooldown_in: 0,
-};
+const FEWEST_KEYS: [u64; 9] = [0, 5000, 0, 1, 9, 1000, 1000, 0, 0];
 
 // Queue 0 has the scaler 3 and the copies 4, 7 and 8 of a consumer; queue 1 has the copies 2 and 6,
 // and behind all of these the scaler 5.
 #[test]
 fn scalers_and_copies_are_as_their_keys_say(rt: HostRuntime) {
     let text =
-        b"version = 3\nhorizon = 90\n[[queue]]\nname = 'q'\n[[queue]]\nname = 'r'\n[[actor]]\nname = 'p'\nkind = 'consumer'\nqueue = 'r'\nservice_min_ms = 1\nservice_max_ms = 2\ncopies = 2\nscaler = 't'\n[[actor]]\nname = 's'\nkind = 'scaler'\nqueue = 'q'\nstart_ms = 1\nevery_s = 60\nreading_s = 20\nvisible_per_copy = 100\ncopies_min = 2\ncopies_max = 12\nadded_max = 4\ntaken_max = 3\ncooldown_out_s = 30\ncooldown_in_s = 300\n[[actor]]\nname = 'w'\nkind = 'consumer'\nqueue = 'q'\nservice_min_ms = 1\nservice_max_ms = 2\ncopies = 3\nscaler = 's'\nscaler_start_ms = 45000\n[[actor]]\nname = 't'\nkind = 'scaler'\nqueue = 'r'\nevery_s = 5\nvisible_per_copy = 7\ncopies_max = 9\n".as_slice();
+        b"version = 3\nhorizon = 90\n[[queue]]\nname = 'q'\n[[queue]]\nname = 'r'\n[[actor]]\nname = 'p'\nkind = 'consumer'\nqueue = 'r'\nservice_min_ms = 1\nservice_max_ms = 2\ncopies = 2\nscaler = 't'\n[[actor]]\nname = 's'\nkind = 'scaler'\nqueue = 'q'\nstart_ms = 1\nevery_s = 60\nreading_s = 20\nvisible_per_copy = 100\ncopies_min = 2\ncopies_max = 12\nadded_max = 4\ntaken_max = 3\ncooldown_out_s = 30\ncooldown_in_s = 300\n[[actor]]\nname = 'w'\nkind = 'consumer'\nqueue = 'q'\nservice_min_ms = 1\nservice_max_ms = 2\ncopies = 3\nscaler = 's'\nscaler_start_ms = 45000\n[[actor]]\nname = 't'\nkind = 'scaler'\nqueue = 'r'\nevery_s = 5\nsteps = [[0, 1], [70, 9]]\ncopies_max = 9\n".as_slice();
     let here = Scaling {
         scaler: 3,
         second: 7,

@@ -11,7 +11,8 @@ use sqs_message::{
 };
 use sqs_model::{
     Act, ActorSettings, ConsumerSettings, Distribution, Forwarding, Groups, Outage, Outbounds,
-    ProducerSettings, Role, ScalerSettings, Scaling, Serving, Standing, Stretch, WeightedGroup,
+    ProducerSettings, Role, ScalerSettings, Scaling, ScalingStep, Serving, Standing, Stretch,
+    Target, WeightedGroup,
 };
 use sqs_redrive::{Batch, Got, Latency, Load, Outbound};
 use std::alloc::{AllocError, Global};
@@ -661,7 +662,7 @@ fn scaler(reading: u64, cooldown_out: u64, cooldown_in: u64) -> ScalerSettings
         start: 5000,
         every: 10_000,
         reading,
-        target: 10,
+        target: Target::PerCopy(10),
         least: 1,
         most: 5,
         most_added: 2,
@@ -669,6 +670,11 @@ fn scaler(reading: u64, cooldown_out: u64, cooldown_in: u64) -> ScalerSettings
         cooldown_out,
         cooldown_in,
     }
+}
+
+// Up to so many visible messages so many copies.
+fn step(visible: u64, copies: u64) -> ScalingStep {
+    ScalingStep { visible, copies }
 }
 
 // Takes a scaler of queue 2 through a life.
@@ -720,6 +726,23 @@ fn scaler_decides_by_what_it_read_before(rt: HostRuntime) {
         (19_000, Told::By(90, None), "scale 2 1", Some(25_000)),
     ];
     scale(&rt, rt.alloc(), scaler(4000, 0, 0), life);
+}
+
+#[test]
+fn scaler_goes_by_the_first_step_that_has_what_is_visible(rt: HostRuntime) {
+    // Up to 3 visible messages 2 copies, up to 10 4; past that 5, which is the most.
+    let (few, more) = (step(3, 2), step(10, 4));
+    let steps = vec![in rt.alloc(); few, more].expect(&rt, "memory");
+    let mut by_steps = scaler(0, 0, 0);
+    by_steps.target = Target::Steps(Listed::new(steps));
+    let life: &[Step] = &[
+        (5000, Told::By(3, None), "scale 1 2", Some(15_000)),
+        (15_000, Told::By(4, None), "scale 2 4", Some(25_000)),
+        (25_000, Told::By(10, None), "nothing", Some(35_000)),
+        (35_000, Told::By(11, None), "scale 4 5", Some(45_000)),
+        (45_000, Told::By(0, None), "scale 5 4", Some(55_000)),
+    ];
+    scale(&rt, rt.alloc(), by_steps, life);
 }
 
 #[test]

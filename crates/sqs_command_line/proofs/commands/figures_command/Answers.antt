@@ -1,5 +1,5 @@
 use Rattle.std.proofs.Common.{ap, ◌∙◌}
-use Rattle.sqs_command_line.specs.Programs.{with_wanted}
+use Rattle.sqs_command_line.specs.Programs.{with_version_3, with_wanted}
 use Rattle.sqs_command_line.proofs.Added.{added_app}
 use Rattle.sqs_command_line.proofs.commands.figures_command.Goals as goal
 
@@ -7,6 +7,6 @@ pub returns-clause-app : goal.returns-clause-app
 returns-clause-app c =
     let scripts = added_app c.named-command.result c.option.result c.in_ok-command.command _ _ c.in_ok-command.ensures c.named-command.ensures.app c.option.ensures.rule c.option.ensures.local in
     let wanted = c.in_ok-command-2.ensures.app ∙ ap with_wanted scripts in
-    let preview = added_app c.in_ok-command-2.command c.flag.result c.in_ok-command-3.command _ _ c.in_ok-command-3.ensures wanted c.flag.ensures.rule c.flag.ensures.local in
-    let scenario = added_app c.in_ok-command-3.command c.place.result c.in_ok-command-4.command _ _ c.in_ok-command-4.ensures preview c.place.ensures.rule c.place.ensures.local in
+    let third = c.in_ok-command-3.ensures.app ∙ ap with_version_3 wanted in
+    let scenario = added_app c.in_ok-command-3.command c.place.result c.in_ok-command-4.command _ _ c.in_ok-command-4.ensures third c.place.ensures.rule c.place.ensures.local in
     added_app c.in_ok-command-4.command c.place-2.result c.in_ok-command-5.command _ _ c.in_ok-command-5.ensures scenario c.place-2.ensures.rule c.place-2.ensures.local

@@ -16,7 +16,7 @@ returns c =
       scripts = c.get_str-3.ensures ∙ first_value-rows found (codes "scripts");
       figures = flag_given found (codes "figures") c.get_flag.result c.get_flag.ensures.none c.get_flag.ensures.value c.get_flag.ensures.other;
       wanted = c.in_ok-wanted.ensures;
-      preview = flag_given found (codes "preview") c.get_flag-2.result c.get_flag-2.ensures.none c.get_flag-2.ensures.value c.get_flag-2.ensures.other;
-      quiet = flag_given found (codes "quiet") c.get_flag-3.result c.get_flag-3.ensures.none c.get_flag-3.ensures.value c.get_flag-3.ensures.other;
+      version_3 = c.version_3.ensures;
+      quiet = flag_given found (codes "quiet") c.get_flag-2.result c.get_flag-2.ensures.none c.get_flag-2.ensures.value c.get_flag-2.ensures.other;
       scenario = c.get_str-4.ensures ∙ first_value-rows found (codes "scenario");
     }
