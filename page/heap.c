@@ -79,16 +79,16 @@ Tried rattle_realloc(u8 *p, u64 kept, u64 n, u64 align) {
 
 // The exports: room for so many bytes, 0 where memory is refused; a rehearsal; and a comparison of two. One that traps
 // leaves memory half written. The helpers of rattle-link say whether one is under way, so that a call after it traps
-// too. Version 3 of scenarios is read only if `preview` asks for it, and figures are written only if they are asked for.
+// too. Scenarios of version 3 are read only if `version_3` is true, and figures are written only if they are asked for.
 // Of the script files, `files` has the name of each and the file behind it, and `lengths` how long both are.
 _Bool __rattle_enter(void);
 void __rattle_leave(void);
 void __rattle_trap(void);
 typedef struct { u64 name, file; } Lengths;
-typedef struct { _Bool preview, figures; u64 from, until, backlog, window; } Options;
+typedef struct { _Bool version_3, figures; u64 from, until, backlog, window; } Options;
 unsigned sqs_page_rehearse_with_files(const Options *options, const u8 *text, u64 length, const u8 *files, u64 bytes,
                                       const Lengths *lengths, u64 count, u8 *room, u64 size, u64 *needed);
-unsigned sqs_page_compare(_Bool preview, const u8 *first, u64 first_length, const u8 *second, u64 second_length,
+unsigned sqs_page_compare(_Bool version_3, const u8 *first, u64 first_length, const u8 *second, u64 second_length,
                           const u8 *files, u64 bytes, const Lengths *lengths, u64 count, u8 *room, u64 size,
                           u64 *needed);
 
@@ -105,11 +105,11 @@ unsigned rehearse(const Options *options, const u8 *text, u64 length, const u8 *
 }
 
 __attribute__((export_name("compare")))
-unsigned compare(unsigned preview, const u8 *first, u64 first_length, const u8 *second, u64 second_length,
+unsigned compare(unsigned version_3, const u8 *first, u64 first_length, const u8 *second, u64 second_length,
                  const u8 *files, u64 bytes, const Lengths *lengths, u64 count, u8 *room, u64 size, u64 *needed) {
     if (__rattle_enter()) __rattle_trap();
-    unsigned answer = sqs_page_compare(preview != 0, first, first_length, second, second_length, files, bytes, lengths,
-                                       count, room, size, needed);
+    unsigned answer = sqs_page_compare(version_3 != 0, first, first_length, second, second_length, files, bytes,
+                                       lengths, count, room, size, needed);
     __rattle_leave();
     return answer;
 }

@@ -8,12 +8,12 @@ use Rattle.sim_clock.specs.declared.refusal.Refusal.TheVariants.{NotToml, TooMan
 use Rattle.sqs_formats.specs.Scenario.{document, is_small, released}
 use Rattle.sim_scenario.specs.declared.draft.Draft.{Draft}
 use Rattle.sim_scenario.specs.declared.draft.Newest.{Newest}
-use Rattle.sim_scenario.specs.declared.draft.Newest.TheVariants.{Preview, Released}
+use Rattle.sim_scenario.specs.declared.draft.Newest.TheVariants.{Second, Third}
 
 -- the number of the newest version that may be read
 abbrev pub newest_of : Newest → ℕ
-newest_of Released = released
-newest_of Preview = 3
+newest_of Second = released
+newest_of Third = 3
 
 -- the document of a text, or why none is read in it
 abbrev pub draft_of : List ℕ → Result Members Refusal

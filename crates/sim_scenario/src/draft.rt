@@ -18,19 +18,13 @@ use sqs_message::Text;
 use std::alloc::{AllocError, Global};
 use toml::Table;
 
-/// The newest version of scenarios that is released.
-const RELEASED: u64 = 2;
-
-/// The newest version of scenarios that may be previewed.
-const PREVIEW: u64 = 3;
-
 /// The newest version of scenarios that may be read.
 #[derive(Clone, Copy)]
 pub enum Newest {
-    /// The newest one that is released.
-    Released,
-    /// The one that is a preview.
-    Preview,
+    /// Version 2, if nothing else is asked for.
+    Second,
+    /// Version 3.
+    Third,
 }
 
 impl Newest {
@@ -39,8 +33,8 @@ impl Newest {
         ensures { result ≡ newest_of self }
     {
         match self {
-            Newest::Released => RELEASED,
-            Newest::Preview => PREVIEW,
+            Newest::Second => 2,
+            Newest::Third => 3,
         }
     }
 }
@@ -83,7 +77,7 @@ impl Draft {
     pub fn parse(alloc: Global, text: &[u8]) -> Result<Draft, AllocError>
         ensures { IfOk result (IsDraftOf text.now) }
     {
-        Draft::parse_upto(alloc, Newest::Released, text)
+        Draft::parse_upto(alloc, Newest::Second, text)
     }
 
     /// The draft of a text, of which versions up to the newest one may be read.

@@ -52,7 +52,7 @@ fn version_3(matches: &ArgMatches) -> bool
 {
     let v3 = matches.get_flag("v3");
     let preview = matches.get_flag("preview");
-    v3 || preview
+    v3 | preview
 }
 
 // What `run` asks for.

@@ -8,8 +8,8 @@ use sim_scenario::Newest;
 /// What a page chooses, as it hands it over.
 #[repr(C)]
 pub struct PageOptions {
-    /// Whether a scenario of the version that is a preview is read.
-    pub preview: bool,
+    /// Whether scenarios of version 3 are read.
+    pub version_3: bool,
     /// Whether figures are written behind the report. If they are not, the numbers say nothing.
     pub figures: bool,
     /// The first moment of the stretch that figures are over, in milliseconds.
@@ -31,14 +31,14 @@ pub struct Asked {
     pub figures: Option<Wanted>,
 }
 
-/// The newest version of scenarios that is read, by whether the preview is asked for.
-pub fn newest(preview: bool) -> Newest
-    ensures { result ≡ newest_if preview }
+/// The newest version of scenarios that is read, by whether version 3 is asked for.
+pub fn newest(version_3: bool) -> Newest
+    ensures { result ≡ newest_if version_3 }
 {
-    if preview {
-        Newest::Preview
+    if version_3 {
+        Newest::Third
     } else {
-        Newest::Released
+        Newest::Second
     }
 }
 
@@ -66,7 +66,7 @@ impl PageOptions {
         ensures { result ≡ asked_by self.now }
     {
         Asked {
-            newest: newest(self.preview),
+            newest: newest(self.version_3),
             figures: self.wanted(),
         }
     }

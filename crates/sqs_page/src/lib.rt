@@ -172,16 +172,15 @@ pub extern "C" fn sqs_page_rehearse(
     ensures length { length room.new ≡ length room.old }
 {
     let asked = Asked {
-        newest: Newest::Released,
+        newest: Newest::Second,
         figures: None,
     };
     let no_scripts = Scripts::new(Vec::new(alloc));
     rehearse(alloc, asked, text, &no_scripts, room, needed)
 }
 
-/// Rehearses a scenario as `sqs_page_rehearse` does, with its script files, and by options: a
-/// version that is a preview is read only if they ask for it, and figures follow the report if they
-/// ask for them. `files` has the name of each file and, behind it, the file; `lengths` has how long
+/// Rehearses a scenario as `sqs_page_rehearse` does, with its script files, and by options:
+/// version 3 is read only if they ask for it, and figures follow the report if they ask for them. `files` has the name of each file and, behind it, the file; `lengths` has how long
 /// both are. After `NO_FILES` they do not fit together, `needed` is 0, and the room is as it was.
 #[unsafe(no_mangle)]
 pub extern "C" fn sqs_page_rehearse_with_files(
@@ -224,7 +223,7 @@ pub extern "C" fn sqs_page_rehearse_with_files(
 #[unsafe(no_mangle)]
 pub extern "C" fn sqs_page_compare(
     alloc: Global,
-    preview: bool,
+    version_3: bool,
     first: &[u8],
     second: &[u8],
     files: &[u8],
@@ -234,28 +233,28 @@ pub extern "C" fn sqs_page_compare(
 ) -> u32
     ensures code { result ≤ 6 }
     ensures output { result ≡ 0 → ForFiles files.now lengths.now (λ scripts.
-        IsComparisonOf (newest_if preview) first.now second.now scripts
+        IsComparisonOf (newest_if version_3) first.now second.now scripts
         (take needed.new room.new)) }
     ensures first { result ≡ 1 → ForFiles files.now lengths.now (λ scripts.
-        IsLineOf (IsFirstFault (newest_if preview) first.now second.now scripts)
+        IsLineOf (IsFirstFault (newest_if version_3) first.now second.now scripts)
         (take needed.new room.new)) }
     ensures second { result ≡ 6 → ForFiles files.now lengths.now (λ scripts.
-        IsLineOf (IsSecondFault (newest_if preview) first.now second.now scripts)
+        IsLineOf (IsSecondFault (newest_if version_3) first.now second.now scripts)
         (take needed.new room.new)) }
     ensures short { result ≡ 2 → ForFiles files.now lengths.now (λ scripts.
         IsTooShort room.new needed.new
-        (IsComparisonOf (newest_if preview) first.now second.now scripts)) }
+        (IsComparisonOf (newest_if version_3) first.now second.now scripts)) }
     ensures memory { result ≡ 3 → needed.new ≡ 0 }
     ensures line { result ≡ 4 → ForFiles files.now lengths.now (λ scripts.
         IsTooShort room.new needed.new
-        (IsLineOf (IsEitherFault (newest_if preview) first.now second.now scripts))) }
+        (IsLineOf (IsEitherFault (newest_if version_3) first.now second.now scripts))) }
     ensures no_files { result ≡ 5 → (scripts : Files) → ¬ AreFiles files.now lengths.now scripts }
     ensures nothing { result ≡ 5 → needed.new ≡ 0 }
     ensures room { IsRoomAfter result needed.new room.old room.new }
     ensures length { length room.new ≡ length room.old }
 {
     *needed = 0;
-    let newest = newest(preview);
+    let newest = newest(version_3);
     match scripts_in(alloc, files, lengths) {
         Ok(Some(scripts)) => compare(alloc, newest, first, second, &scripts, room, needed),
         Ok(None) => NO_FILES,

@@ -126,7 +126,7 @@ pub fn rehearse<G: Gate<Running> + Sync, L: Out, R: Out, W: Threads + Wait + Syn
     rehearse_upto(
         rt,
         alloc,
-        Newest::Released,
+        Newest::Second,
         text,
         scripts,
         options,

@@ -5,7 +5,7 @@ use Rattle.std.specs.declared.io.ErrorKind.{ErrorKind}
 use Rattle.std.specs.declared.io.ErrorKind.TheVariants as kinds
 use Rattle.sim_clock.specs.declared.refusal.Refusal.TheVariants as refusals
 use Rattle.sim_scenario.specs.declared.draft.Newest.{Newest}
-use Rattle.sim_scenario.specs.declared.draft.Newest.TheVariants.{Preview, Released}
+use Rattle.sim_scenario.specs.declared.draft.Newest.TheVariants.{Second, Third}
 use Rattle.sqs_rehearsal.specs.declared.rehearsal.Fault.TheVariants as faults
 use Rattle.sqs_shell.specs.declared.faults.Stop.{Stop}
 use Rattle.sqs_shell.specs.declared.faults.Stop.TheVariants as stops
@@ -14,7 +14,7 @@ use Rattle.sqs_shell.specs.declared.files.InputError.TheVariants as errors
 
 -- the newest version of scenarios that is read: version 3 if it is asked for
 abbrev pub newest_of : Bool → Newest
-newest_of version_3 = if version_3 then Preview else Released
+newest_of version_3 = if version_3 then Third else Second
 
 -- the path of a script: its name in the folder, which is . if none is given
 abbrev pub script_path : Option (List ℕ) → List ℕ → List ℕ

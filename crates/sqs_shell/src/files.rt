@@ -150,9 +150,9 @@ fn newest(version_3: bool) -> Newest
     ensures { result ≡ newest_of version_3 }
 {
     if version_3 {
-        Newest::Preview
+        Newest::Third
     } else {
-        Newest::Released
+        Newest::Second
     }
 }
 

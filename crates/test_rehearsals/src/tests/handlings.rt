@@ -3,7 +3,7 @@
 ghost use Rattle.std.specs.Prelude.{IfOk};
 ghost use Rattle.sqs_model.specs.Progress.{AreTimely};
 
-use crate::tests::machines::{copies, previewed};
+use crate::tests::machines::{copies, of_version_3};
 use sim_clock::{Class, Key, Refusal};
 use sim_engine::Effects;
 use sim_partition::Partition;
@@ -40,7 +40,7 @@ fn in_one(
 fn opened(alloc: Global, text: &[u8], transfers: Vec<Outbound>) -> Option<(Partition<Site>, Names)>
     requires { AreTimely transfers.items }
 {
-    let scenario = previewed(alloc, text)?;
+    let scenario = of_version_3(alloc, text)?;
     let names = Names::new(copies(alloc, scenario.names()).ok()?);
     let partition = in_one(alloc, scenario, transfers).ok()?;
     Some((partition, names))

@@ -85,9 +85,9 @@ pub fn scenario(alloc: Global, text: &[u8]) -> Option<Scenario> {
     read(alloc, text, &Scripts::new(Vec::new(alloc))).ok()
 }
 
-/// The same, if the preview may be read, too.
-pub fn previewed(alloc: Global, text: &[u8]) -> Option<Scenario> {
-    let draft = Draft::parse_upto(alloc, Newest::Preview, text).ok()?;
+/// The same, if version 3 may be read, too.
+pub fn of_version_3(alloc: Global, text: &[u8]) -> Option<Scenario> {
+    let draft = Draft::parse_upto(alloc, Newest::Third, text).ok()?;
     draft.read(alloc, &Scripts::new(Vec::new(alloc))).ok()
 }
 

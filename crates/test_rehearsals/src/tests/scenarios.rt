@@ -1,6 +1,6 @@
 //! The ways and the parts of scenarios that were read. The expected values follow from the rules of
 //! the formats.
-use crate::tests::machines::{previewed, scenario};
+use crate::tests::machines::{of_version_3, scenario};
 use sim_engine::Edge;
 use sim_scenario::{Scenario, edges};
 use sqs_model::{ActorSettings, Outage, Role, Scaling, Serving, Stretch, Target};
@@ -95,7 +95,7 @@ fn consumers_of_version_3_are_as_their_keys_say(rt: HostRuntime) {
             permille: 300,
         },
     ];
-    match previewed(rt.alloc(), text) {
+    match of_version_3(rt.alloc(), text) {
         Some(scenario) => {
             let parts = scenario.into_parts();
             let once = Serving::Once { each: 20 };
@@ -194,7 +194,7 @@ fn scalers_and_copies_are_as_their_keys_say(rt: HostRuntime) {
         second: 6,
         start: 0,
     };
-    match previewed(rt.alloc(), text) {
+    match of_version_3(rt.alloc(), text) {
         Some(scenario) => {
             let parts = scenario.into_parts();
             assert!(rt; are_scaled(parts.actors.as_slice(), here, there));
