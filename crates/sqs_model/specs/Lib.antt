@@ -8,7 +8,6 @@ pub mod Calls
 pub mod Arrive
 pub mod Task
 pub mod Longest
-pub mod Outbounds
 pub mod Actor
 pub mod Site
 pub mod Dues

@@ -1,7 +1,6 @@
 //! The answers that an actor gets, and its acts.
-use crate::outbounds::Outbounds;
-use sqs_message::{Body, Call, MessageId, Receipt, ReceiptHandle, Text};
-use sqs_redrive::Batch;
+use sqs_message::{Body, Call, Listed, MessageId, Receipt, ReceiptHandle, Text};
+use sqs_redrive::{Batch, Outbound};
 use std::alloc::{AllocError, Global};
 
 /// What an actor that scales or is scaled goes by when it wakes. Others go by nothing.
@@ -79,7 +78,7 @@ pub enum Act {
         id: MessageId,
         receipt: Receipt,
         failed: bool,
-        forwards: Outbounds,
+        forwards: Listed<Outbound>,
     },
     /// A scaler changes how many copies of a consumer ask for messages.
     Scale {

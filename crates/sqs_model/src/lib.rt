@@ -8,7 +8,6 @@ mod agents;
 mod finals;
 mod laws;
 mod limits;
-mod outbounds;
 
 pub use acts::{Act, Answer, Standing};
 pub use agents::{
@@ -29,4 +28,3 @@ pub use laws::{
 pub use limits::{
     DEDUPLICATION_INTERVAL, LONGEST_DELAY, LONGEST_FLIGHT, LONGEST_TIMEOUT, MOST_COUNT,
 };
-pub use outbounds::Outbounds;

@@ -1,9 +1,9 @@
 //! What a consumer does.
 ghost use Rattle.std.specs.Option.{option_copied};
-ghost use Rattle.std.specs.Prelude.{◌≡◌, ◌<◌, ◌≤◌, ◌+◌, [], All, Ok, Some, false, if◌then◌else◌, max};
+ghost use Rattle.std.specs.Prelude.{◌≡◌, ◌<◌, ◌≤◌, ◌+◌, ℕ, [], All, Ok, Some, false, if◌then◌else◌, max};
 ghost use Rattle.sqs_message.specs.Ids.{receipt_text};
 ghost use Rattle.sqs_model.specs.declared.agents.ActorSettings.{ActorSettings};
-ghost use Rattle.sqs_model.specs.declared.agents.Serving.TheVariants.{Each};
+ghost use Rattle.sqs_model.specs.declared.agents.Serving.TheVariants.{Each, Once};
 ghost use Rattle.sqs_model.specs.Actor.{woken, idle as the_idle, serving as the_serving, serves as the_serves, settles as the_settles, fails_service as the_fails_service, backs_off as the_backs_off, backoff_at as the_backoff_at, goes_on as the_goes_on, drawn_failure, has_failed as the_has_failed, outcome as the_outcome, rests as the_rests, consumer_wake as the_consumer_wake, consumer_got as the_consumer_got, consumer_told as the_consumer_told};
 ghost use Rattle.sqs_model.specs.Answers.{most_count};
 ghost use Rattle.sqs_model.specs.Longest.{longest_timeout};
@@ -17,8 +17,8 @@ use super::{LastAct, Life, has_come};
 use crate::replies::FollowUp;
 use sim_clock::Refusal;
 use sim_draw::Draws;
-use sqs_message::{MessageId, Receipt, ReceiptHandle};
-use sqs_model::{Act, ConsumerSettings, Forwarding, MOST_COUNT, Outbounds, Serving};
+use sqs_message::{Listed, MessageId, Receipt, ReceiptHandle};
+use sqs_model::{Act, ConsumerSettings, Forwarding, MOST_COUNT, Serving};
 use sqs_redrive::{Batch, Got};
 
 // The timeout in seconds that follows a failed service: the entry of the receive, or else the last.
@@ -174,6 +174,19 @@ impl Life {
         }
     }
 
+    // The end of a service, after which nothing is forwarded.
+    #[inline(always)]
+    fn ended(&self, id: MessageId, receipt: Receipt, failed: bool) -> Act
+        ensures { result ≡ Act.Serve id receipt failed [] }
+    {
+        Act::Serve {
+            id,
+            receipt,
+            failed,
+            forwards: Listed::new(Vec::new(self.alloc)),
+        }
+    }
+
     // Ends a service well.
     fn serve(
         &mut self,
@@ -188,14 +201,13 @@ impl Life {
             (λ a. the_serves a now got (option_copied forwarding.entry)) }
         ensures framed { self.new.number ≡ self.old.number }
     {
-        let (id, receipt) = (got.id, got.receipt);
-        let forwards = match forwarding {
-            None => Outbounds::none(),
-            Some(forwarding) => self.forward(home, now, got, forwarding)?,
+        let Some(forwarding) = forwarding else {
+            return Ok(self.ended(got.id, got.receipt, false));
         };
+        let forwards = self.forward(home, now, &got, forwarding)?;
         Ok(Act::Serve {
-            id,
-            receipt,
+            id: got.id,
+            receipt: got.receipt,
             failed: false,
             forwards,
         })
@@ -251,15 +263,12 @@ impl Life {
             (false, true) => self.holding.fail_all(),
             (false, false) => self.holding.fail_first(),
         }
-        Act::Serve {
-            id,
-            receipt,
-            failed: true,
-            forwards: Outbounds::none(),
-        }
+        self.ended(id, receipt, true)
     }
 
-    // Ends a service of one message well, of a consumer whose receives end as a whole.
+    // Ends a service of one message well, of a consumer whose receives end as a whole. It is apart
+    // from services that end by themselves, which nearly all do.
+    #[inline(never)]
     fn end_in_whole(
         &mut self,
         consumer: &ConsumerSettings,
@@ -277,12 +286,7 @@ impl Life {
         self.holding.serve_first();
         if self.holding.first().is_some() {
             self.last_act = LastAct::Ended;
-            return Ok(Act::Serve {
-                id,
-                receipt,
-                failed: false,
-                forwards: Outbounds::none(),
-            });
+            return Ok(self.ended(id, receipt, false));
         }
         match self.holding.take_done() {
             None => Ok(Act::Nothing),
@@ -290,8 +294,29 @@ impl Life {
         }
     }
 
+    // Ends a service of all messages held well, of a consumer whose receives end as a whole.
+    #[inline(never)]
+    fn end_at_once(
+        &mut self,
+        consumer: &ConsumerSettings,
+        home: u32,
+        now: u64,
+    ) -> Result<Act, Refusal>
+        requires moment { now ≤ most_count }
+        requires consumer { IsConsumer consumer.now }
+        ensures decision { (each : ℕ) → EndsFirst home result self.old self.new
+            (ends_all (Once each) consumer.now now) }
+        ensures framed { self.new.number ≡ self.old.number }
+    {
+        match self.holding.serve_all() {
+            None => Ok(Act::Nothing),
+            Some(got) => self.settle(consumer, home, now, got),
+        }
+    }
+
     // The first message that it holds was served. It is forwarded, if the consumer forwards, and then
     // deleted.
+    #[inline(never)]
     fn forward_held(
         &mut self,
         consumer: &ConsumerSettings,
@@ -311,6 +336,7 @@ impl Life {
     }
 
     // Ends a service well, of a consumer each of whose services ends by itself.
+    #[inline(always)]
     fn settle_held(
         &mut self,
         consumer: &ConsumerSettings,
@@ -328,17 +354,13 @@ impl Life {
         if consumer.forward.is_none() {
             self.holding.drop_held();
             self.last_act = LastAct::Served(receipt);
-            return Ok(Act::Serve {
-                id,
-                receipt,
-                failed: false,
-                forwards: Outbounds::none(),
-            });
+            return Ok(self.ended(id, receipt, false));
         }
         self.forward_held(consumer, home, now)
     }
 
     // Ends the service of the first message that it holds, which failed or not.
+    #[inline(always)]
     fn end_as(
         &mut self,
         consumer: &ConsumerSettings,
@@ -362,14 +384,12 @@ impl Life {
         match (consumer.whole, consumer.serving) {
             (false, _) => self.settle_held(consumer, home, now, id, receipt),
             (true, Serving::Each) => self.end_in_whole(consumer, home, now, id, receipt),
-            (true, Serving::Once { .. }) => match self.holding.serve_all() {
-                None => Ok(Act::Nothing),
-                Some(got) => self.settle(consumer, home, now, got),
-            },
+            (true, Serving::Once { .. }) => self.end_at_once(consumer, home, now),
         }
     }
 
     // Whether the service that ends fails: as was decided when it began, or else drawn now.
+    #[inline(always)]
     fn outcome(&mut self, consumer: &ConsumerSettings, now: u64) -> Result<bool, Refusal>
         ensures outcome { (s : ActorSettings) → Drawn result self.new.draws
             (the_outcome consumer.now.fail_service (lived s self.old) consumer.now now) }

@@ -9,6 +9,7 @@ use sqs_message::Text;
 use sqs_model::{ConsumerSettings, Outage, Serving, Stretch};
 
 // Whether the body of one of the messages held contains a text.
+#[inline(never)]
 fn any_contains(holding: &Holding, part: &Text) -> bool
     ensures { result ≡ list_any (λ g. contains part.now g.body) holding.now.held }
 {
@@ -16,6 +17,7 @@ fn any_contains(holding: &Holding, part: &Text) -> bool
 }
 
 // Whether the body of the first message held contains a text.
+#[inline(never)]
 fn first_contains(holding: &Holding, part: &Text) -> bool
     ensures { result ≡ list_any (λ g. contains part.now g.body) (take 1 holding.now.held) }
 {
@@ -52,6 +54,7 @@ pub fn failing(consumer: &ConsumerSettings, now: u64) -> u64
 
 /// Whether a service fails: by chance, by the first of the messages held, or by any of them if all
 /// are served at once and end as a whole.
+#[inline(always)]
 pub fn fails(consumer: &ConsumerSettings, holding: &Holding, by_chance: bool) -> bool
     ensures { result ≡ the_fails consumer.now
         (at_stake consumer.now.serving consumer.now.whole holding.now.held) by_chance }

@@ -6,8 +6,8 @@ ghost use Rattle.sim_actor.specs.Lives.{Forwards, HasRoom, SendsOne, SendsAll, l
 
 use super::Life;
 use sim_clock::Refusal;
-use sqs_message::Text;
-use sqs_model::{Forwarding, MOST_COUNT, Outbounds};
+use sqs_message::{Listed, Text};
+use sqs_model::{Forwarding, MOST_COUNT};
 use sqs_redrive::{Got, Latency, Load, Outbound};
 use std::alloc::{AllocError, Global};
 
@@ -87,12 +87,12 @@ impl Life {
         &mut self,
         home: u32,
         now: u64,
-        got: Got,
+        got: &Got,
         forwarding: &Forwarding,
-    ) -> Result<Outbounds, Refusal>
+    ) -> Result<Listed<Outbound>, Refusal>
         requires moment { now ≤ most_count }
         requires forwarding { IsForwarding forwarding.now }
-        ensures sent { Forwards home now got forwarding.now result self.old self.new }
+        ensures sent { Forwards home now got.now forwarding.now result self.old self.new }
         ensures framed { self.new.number ≡ self.old.number }
     {
         // The type's invariant says that its counts are within the limit.
@@ -101,16 +101,7 @@ impl Life {
         if !self.has_room(queues.len() as u64, forwarding.latency) {
             return Err(Refusal::CountLimit);
         }
-        if queues.len() > 1 {
-            let sent = self.send_to_all(home, now, &got, forwarding)?;
-            return Ok(Outbounds::several(sent));
-        }
-        let load = Load::Forward {
-            id: got.id,
-            body: got.body,
-            group: got.group,
-        };
-        let sent = self.send_to(home, now, load, queues[0], forwarding.latency);
-        Ok(Outbounds::one(sent))
+        let sent = self.send_to_all(home, now, got, forwarding)?;
+        Ok(Listed::new(sent))
     }
 }

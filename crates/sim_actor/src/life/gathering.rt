@@ -19,17 +19,7 @@ const MOST_SERVED: u64 = 120_000;
 pub(crate) fn is_gathering(last_act: LastAct) -> bool
     ensures { result ≡ the_is_gathering (last_act_of last_act) }
 {
-    match last_act {
-        LastAct::Gathered => true,
-        LastAct::Asked
-        | LastAct::Served(_)
-        | LastAct::Ended
-        | LastAct::Failed
-        | LastAct::Beat
-        | LastAct::Parked
-        | LastAct::Decided { .. }
-        | LastAct::Read { .. } => false,
-    }
+    matches!(last_act, LastAct::Gathered)
 }
 
 // How long a consumer that gathers rests after a receive that gave these messages.
@@ -74,6 +64,7 @@ impl Life {
 
     // Begins to serve the messages that it holds, or wakes after a while to ask for more. Returns
     // `Memory` if it holds more of them than one service may be of.
+    #[inline(never)]
     pub(crate) fn gather(
         &mut self,
         consumer: &ConsumerSettings,
@@ -97,6 +88,7 @@ impl Life {
 
     // Begins to serve the messages that it holds. Returns `Memory` if they are more than one
     // service may be of.
+    #[inline(always)]
     fn serve_batch(&mut self, consumer: &ConsumerSettings, now: u64) -> Result<(), Refusal>
         requires moment { now ≤ most_count }
         requires consumer { IsConsumer consumer.now }

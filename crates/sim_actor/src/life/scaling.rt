@@ -81,13 +81,7 @@ pub(crate) fn copies_by(scaler: &ScalerSettings, last_act: LastAct) -> u32
 {
     match last_act {
         LastAct::Decided { copies, .. } | LastAct::Read { copies, .. } => copies,
-        LastAct::Asked
-        | LastAct::Gathered
-        | LastAct::Served(_)
-        | LastAct::Ended
-        | LastAct::Failed
-        | LastAct::Beat
-        | LastAct::Parked => scaler.least,
+        _ => scaler.least,
     }
 }
 
@@ -97,13 +91,7 @@ fn changed_at(last_act: LastAct) -> u64
 {
     match last_act {
         LastAct::Decided { changed, .. } | LastAct::Read { changed, .. } => changed,
-        LastAct::Asked
-        | LastAct::Gathered
-        | LastAct::Served(_)
-        | LastAct::Ended
-        | LastAct::Failed
-        | LastAct::Beat
-        | LastAct::Parked => 0,
+        _ => 0,
     }
 }
 
@@ -113,14 +101,7 @@ fn read_before(last_act: LastAct) -> Option<u64>
 {
     match last_act {
         LastAct::Read { visible, .. } => Some(visible),
-        LastAct::Decided { .. }
-        | LastAct::Asked
-        | LastAct::Gathered
-        | LastAct::Served(_)
-        | LastAct::Ended
-        | LastAct::Failed
-        | LastAct::Beat
-        | LastAct::Parked => None,
+        _ => None,
     }
 }
 
@@ -252,17 +233,7 @@ impl Life {
     fn is_parked(&self) -> bool
         ensures { result ≡ the_is_parked self.now.last_act }
     {
-        match self.last_act {
-            LastAct::Parked => true,
-            LastAct::Asked
-            | LastAct::Gathered
-            | LastAct::Served(_)
-            | LastAct::Ended
-            | LastAct::Failed
-            | LastAct::Beat
-            | LastAct::Decided { .. }
-            | LastAct::Read { .. } => false,
-        }
+        matches!(self.last_act, LastAct::Parked)
     }
 
     // A copy that is not to ask sleeps until its scaler wakes next.

@@ -9,8 +9,7 @@ use super::Core;
 use crate::handling::Handling;
 use crate::rows::with_receipt;
 use sim_clock::Refusal;
-use sqs_message::{Detail, MessageId, Receipt, RowAnswer, RowKind, RowReceipt};
-use sqs_model::Outbounds;
+use sqs_message::{Detail, Listed, MessageId, Receipt, RowAnswer, RowKind, RowReceipt};
 use sqs_redrive::Outbound;
 
 impl Core {
@@ -41,12 +40,12 @@ impl Core {
         &self,
         handling: &mut Handling<'_>,
         id: MessageId,
-        forwards: Outbounds,
+        forwards: Listed<Outbound>,
     ) -> Result<(), Refusal>
         ensures { (a : Actor) → a.number ≡ handling.old.agent → Does result handling.old handling.new
             self.now (forwards_made handling.old.key a id forwards self.now) }
     {
-        for transfer in forwards {
+        for transfer in forwards.into_vec() {
             self.forward(handling, id, transfer)?;
         }
         Ok(())
@@ -61,7 +60,7 @@ impl Core {
         id: MessageId,
         receipt: Receipt,
         failed: bool,
-        forwards: Outbounds,
+        forwards: Listed<Outbound>,
     ) -> Result<(), Refusal>
         ensures { DoesAct result handling.old handling.new self.old self.new
             (acts.Serve id receipt failed forwards) }

@@ -10,7 +10,7 @@ use sqs_message::{
     Template, Text,
 };
 use sqs_model::{
-    Act, ActorSettings, ConsumerSettings, Distribution, Forwarding, Groups, Outage, Outbounds,
+    Act, ActorSettings, ConsumerSettings, Distribution, Forwarding, Groups, Outage,
     ProducerSettings, Role, ScalerSettings, Scaling, ScalingStep, Serving, Standing, Stretch,
     Target, WeightedGroup,
 };
@@ -81,23 +81,18 @@ fn show_handle(out: &mut String, handle: &ReceiptHandle) -> Shown {
 }
 
 // The end of a service in a line.
-fn show_service(
-    out: &mut String,
-    receipt: Receipt,
-    failed: bool,
-    forwards: &mut Outbounds,
-) -> Shown {
+fn show_service(out: &mut String, receipt: Receipt, failed: bool, forwards: &[Outbound]) -> Shown {
     out.push_str("serve ")?;
     show_receipt(out, receipt)?;
     write!(out, " {failed}")?;
-    for sent in forwards.by_ref() {
-        show_transfer(out, &sent)?;
+    for sent in forwards {
+        show_transfer(out, sent)?;
     }
     Ok(())
 }
 
-// An act in a line. The transfers of the act are taken.
-fn show(out: &mut String, act: &mut Act) -> Shown {
+// An act in a line.
+fn show(out: &mut String, act: &Act) -> Shown {
     match act {
         Act::Send {
             body,
@@ -139,7 +134,7 @@ fn show(out: &mut String, act: &mut Act) -> Shown {
             failed,
             forwards,
             ..
-        } => show_service(out, *receipt, *failed, forwards),
+        } => show_service(out, *receipt, *failed, forwards.as_slice()),
         Act::Scale { from, to } => write!(out, "scale {from} {to}"),
         Act::Nothing => out.push_str("nothing"),
     }
@@ -217,14 +212,14 @@ type Step = (u32, Told, &'static str, Option<u64>);
 // Takes an actor through the steps of a life.
 fn live(rt: &impl Abort, alloc: Global, actor: &mut Actor, steps: &[Step]) {
     for &(now, told, wanted, wake) in steps {
-        let mut act = match reply(rt, alloc, told) {
+        let act = match reply(rt, alloc, told) {
             None => actor
                 .woken(u64::from(now), standing(told))
                 .expect(rt, "an act"),
             Some(reply) => act_of(actor.answered(u64::from(now), reply).expect(rt, "an act")),
         };
         let mut line = String::new(alloc);
-        show(&mut line, &mut act).expect(rt, "memory");
+        show(&mut line, &act).expect(rt, "memory");
         same(rt, (now, line.as_str(), actor.wake()), (now, wanted, wake));
     }
 }

@@ -3,7 +3,7 @@ use Rattle.sqs_model.specs.declared.agents.ActorSettings.{ActorSettings}
 use Rattle.sqs_model.specs.Actor.{has_forwarded}
 use Rattle.sqs_model.specs.Answers.{most_count}
 use Rattle.sim_actor.specs.Lives.{HasRoom, Life, SendsAll, greatest_count, lived}
-use Rattle.sim_actor.proofs.Forwarding.{no_room_past, one_sent, room_within}
+use Rattle.sim_actor.proofs.Forwarding.{no_room_past, room_within}
 use Rattle.sim_actor.proofs.life.Life.forward.Goals as goal
 
 pub returns-then-not-has_room-clause-sent : goal.returns-then-not-has_room-clause-sent
@@ -23,6 +23,4 @@ returns-in_err-sent-clause-sent c =
 
 pub returns-clause-sent : goal.returns-clause-sent
 returns-clause-sent c =
-    let few : length c.as_slice-queues.result.now ≤ 1 = omega (arith, c.if-queues-gt1.false) in
-    let all = one_sent c.args.home c.args.now c.args.got c.args.forwarding.now c.as_slice-queues.result.now c.send_to-sent.result c.args.self.now c.send_to-sent.new.self c.as_slice-queues.ensures c.requires.forwarding.count.0 few c.send_to-sent.ensures.sent in
-    subst (λ sent. SendsAll c.args.home c.args.now c.args.got c.args.forwarding.now sent c.args.self.now c.send_to-sent.new.self) (sym c.one.ensures) all
+    subst (λ sent. SendsAll c.args.home c.args.now c.args.got.now c.args.forwarding.now sent c.args.self.now c.send_to_all.new.self) (sym c.new.ensures) (c.in_ok-sent.ensures.sent)

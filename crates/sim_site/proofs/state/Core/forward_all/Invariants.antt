@@ -9,5 +9,5 @@ abbrev pub invariant-loop-transfer : goal.invariant-loop-transfer
 invariant-loop-transfer l =
     record {
       on : GoesOn l.initial.handling l.handling;
-      remains : (a : Actor) → a.number ≡ l.initial.handling.agent → Remains l.initial.handling.effects.now l.handling.effects.now (forwards_made l.initial.handling.key a l.id l.transfer-iterator l.self) (forwards_made l.initial.handling.key a l.id l.fn.forwards l.self);
+      remains : (a : Actor) → a.number ≡ l.initial.handling.agent → Remains l.initial.handling.effects.now l.handling.effects.now (forwards_made l.initial.handling.key a l.id l.transfer-iterator.rest.items l.self) (forwards_made l.initial.handling.key a l.id l.fn.forwards l.self);
     }
