@@ -109,3 +109,17 @@ sent_all home now g f queues index sent first life is past so s at_home =
     let told : sent ++ [] ≡ forwards (lived s first) now g f.latency queues = ap (λ ys. sent ++ forwards (lived s life) now g f.latency ys) (sym none) ∙ so.told s at_home in
     let rest : lived s life ≡ has_forwarded f.latency queues (lived s first) = ap (λ ys. has_forwarded f.latency ys (lived s life)) (sym none) ∙ so.rest s at_home in
     (ap (forwards (lived s first) now g f.latency) (sym is) ∙ sym told ∙ append-nil sent, ap (λ ys. has_forwarded f.latency ys (lived s first)) (sym is) ∙ sym rest)
+
+-- the transfer to the only queue
+one_queue : (queues : List ℕ) → 1 ≤ length queues → length queues ≤ 1 → queues ≡ get_or queues 0 0 ∷ []
+one_queue [] some few = absurd (omega arith)
+one_queue (to ∷ []) some few = refl
+one_queue (to ∷ (next ∷ tos)) some few = absurd (omega arith)
+
+pub one_sent :
+    (home now : ℕ) (g : Got) (f : Forwarding) (queues : List ℕ) (o : Outbound) (first next : Life) → queues ≡ f.to → 1 ≤ length f.to → length queues ≤ 1
+    → SendsOne home now (load_of g) (get_or queues 0 0) f.latency o first next → SendsAll home now g f (o ∷ []) first next
+one_sent home now g f queues o first next is some few one s at_home =
+    let x = one s g at_home refl in
+    let only : f.to ≡ get_or queues 0 0 ∷ [] = sym is ∙ one_queue queues (subst (λ (tos : List ℕ). 1 ≤ length tos) (sym is) some) few in
+    (ap (forwards (lived s first) now g f.latency) only ∙ ap (λ y. y ∷ []) x.0, ap (λ tos. has_forwarded f.latency tos (lived s first)) only ∙ x.1)

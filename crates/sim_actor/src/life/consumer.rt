@@ -188,6 +188,7 @@ impl Life {
     }
 
     // Ends a service well.
+    #[inline(always)]
     fn serve(
         &mut self,
         home: u32,
@@ -201,19 +202,21 @@ impl Life {
             (λ a. the_serves a now got (option_copied forwarding.entry)) }
         ensures framed { self.new.number ≡ self.old.number }
     {
+        let (id, receipt) = (got.id, got.receipt);
         let Some(forwarding) = forwarding else {
-            return Ok(self.ended(got.id, got.receipt, false));
+            return Ok(self.ended(id, receipt, false));
         };
-        let forwards = self.forward(home, now, &got, forwarding)?;
+        let forwards = self.forward(home, now, got, forwarding)?;
         Ok(Act::Serve {
-            id: got.id,
-            receipt: got.receipt,
+            id,
+            receipt,
             failed: false,
             forwards,
         })
     }
 
     // A message that was served is forwarded and then deleted.
+    #[inline(always)]
     fn settle(
         &mut self,
         consumer: &ConsumerSettings,

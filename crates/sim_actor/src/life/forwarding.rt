@@ -1,5 +1,5 @@
 //! What a consumer forwards.
-ghost use Rattle.std.specs.Prelude.{◌≡◌, ◌<◌, ◌≤◌, ◌+◌, ◌↔◌, IfOk, length, true};
+ghost use Rattle.std.specs.Prelude.{◌≡◌, ◌<◌, ◌≤◌, ◌+◌, ◌↔◌, ◌∷◌, [], IfOk, length, true};
 ghost use Rattle.sqs_model.specs.Answers.{most_count};
 ghost use Rattle.sqs_model.specs.Valid.{IsForwarding, IsLatency};
 ghost use Rattle.sim_actor.specs.Lives.{Forwards, HasRoom, SendsOne, SendsAll, load_of};
@@ -20,6 +20,15 @@ fn copied_load(alloc: Global, got: &Got) -> Result<Load, AllocError>
         body: got.body.copy()?,
         group: Text::copy_of(alloc, got.group.as_ref())?,
     })
+}
+
+// One transfer alone.
+fn alone(alloc: Global, outbound: Outbound) -> Result<Listed<Outbound>, AllocError>
+    ensures { IfOk result (λ sent. sent ≡ outbound ∷ []) }
+{
+    let mut sent = Vec::with_capacity(alloc, 1)?;
+    sent.push(outbound)?;
+    Ok(Listed::new(sent))
 }
 
 impl Life {
@@ -87,12 +96,12 @@ impl Life {
         &mut self,
         home: u32,
         now: u64,
-        got: &Got,
+        got: Got,
         forwarding: &Forwarding,
     ) -> Result<Listed<Outbound>, Refusal>
         requires moment { now ≤ most_count }
         requires forwarding { IsForwarding forwarding.now }
-        ensures sent { Forwards home now got.now forwarding.now result self.old self.new }
+        ensures sent { Forwards home now got forwarding.now result self.old self.new }
         ensures framed { self.new.number ≡ self.old.number }
     {
         // The type's invariant says that its counts are within the limit.
@@ -101,7 +110,16 @@ impl Life {
         if !self.has_room(queues.len() as u64, forwarding.latency) {
             return Err(Refusal::CountLimit);
         }
-        let sent = self.send_to_all(home, now, got, forwarding)?;
-        Ok(Listed::new(sent))
+        if queues.len() > 1 {
+            let sent = self.send_to_all(home, now, &got, forwarding)?;
+            return Ok(Listed::new(sent));
+        }
+        let load = Load::Forward {
+            id: got.id,
+            body: got.body,
+            group: got.group,
+        };
+        let sent = self.send_to(home, now, load, queues[0], forwarding.latency);
+        Ok(alone(self.alloc, sent)?)
     }
 }

@@ -83,7 +83,8 @@ impl Core {
     }
 
     // An actor's wake has come: it decides and acts. Returns the reply to what it did, if it did
-    // anything.
+    // anything. It is apart from `handle`, so that other entries are handled without what it keeps.
+    #[inline(never)]
     fn first_turn(&mut self, handling: &mut Handling<'_>) -> Result<Option<Reply>, Refusal>
         requires { IsRecent handling.old.key.at self.old.queue }
         ensures { TakesTurn (option_map answer_of) result handling.old handling.new self.old
