@@ -21,6 +21,12 @@ class Fault(Exception):
         return f"refused {self.number} {NAMES[self.number]}{values}{place}"
 
 
+def must(holds: object, number: int, place: str) -> None:
+    """Raises the fault of a number at a place unless something holds."""
+    if not holds:
+        raise Fault(number, place)
+
+
 class Refused(Exception):
     """The answer to a call that a queue or a task refuses, by its number."""
 
