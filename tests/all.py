@@ -41,7 +41,7 @@ from typing import NamedTuple
 TOP = os.path.dirname(os.path.dirname(os.path.abspath(__file__)))
 sys.path.insert(0, os.path.join(TOP, "tools"))
 import crate_list  # noqa: E402 (the folder of the tools comes first)
-from rehearse_tools.console import Fault, Parser, Progress, ended, is_terminal  # noqa: E402
+from rehearse_tools.console import Fault, Parser, Progress, ended, is_terminal, refuse  # noqa: E402
 from rehearse_tools.programs import program_itself  # noqa: E402
 
 LATE_CRATE = "sqs_late_workers"
@@ -345,10 +345,8 @@ def options_of(words: Sequence[str]) -> Namespace:
     reading.add_argument("--only", default="")
     reading.add_argument("--limit", type=float, default=3600)
     options = reading.parse_args(words)
-    if options.quick and options.only:
-        raise Fault("--quick and --only exclude each other")
-    if options.jobs < 1:
-        raise Fault("--jobs is at least 1")
+    refuse(options.quick and options.only, "--quick and --only exclude each other")
+    refuse(options.jobs < 1, "--jobs is at least 1")
     return options
 
 

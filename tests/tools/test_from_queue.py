@@ -92,8 +92,7 @@ class FromQueue(ToolCase):
         records = [line.split(",") for line in run.splitlines() if line.startswith("report,")]
         report = dict(zip(records[0], next(record for record in records if record[1] == "orders")))
         self.assertEqual([report[key] for key in ("sends", "visible", "delayed")], ["2508", "2501", "7"])
-        with open(self.path("s.toml"), "rb") as file:
-            actors = toml_of(file.read().decode())["actor"]
+        actors = toml_of(self.read("s.toml").decode())["actor"]
         self.assertEqual([(actor["name"], actor["count"], actor.get("delay_s")) for actor in actors],
                          [("orders-depth-1", 834, 0), ("orders-depth-2", 834, 0), ("orders-depth-3", 833, 0),
                           ("orders-depth-delayed-1", 7, None)])
@@ -184,8 +183,7 @@ class FromQueue(ToolCase):
         text = json.dumps({"Attributes": ORDERS})
         for encoding in ("utf-8", "utf-8-sig", "utf-16", "utf-16-be"):
             mark = "\ufeff" if encoding == "utf-16-be" else ""
-            with open(self.path("orders.json"), "w", encoding=encoding) as file:
-                file.write(mark + text)
+            self.write("orders.json", (mark + text).encode(encoding))
             status, out, _ = self.run_tool("from-queue", "orders.json")
             self.assertEqual((status, out), (0, HEAD + ORDERS_TABLE + FAILED_TABLE), encoding)
 

@@ -305,8 +305,7 @@ class Tool(ToolCase):
             for output, run in ((name, self.run_tool), (f"new/{name}", self.run_command)):
                 words = log, "--output", output, "--scenario", "s.toml", "--title", "My <queues>"
                 self.assertEqual(run("picture", *words), (0, "", ""))
-                with open(self.path(output), "rb") as file:
-                    made.append(file.read())
+                made.append(self.read(output))
             data, again = made
             self.assertTrue(data.startswith(head))
             self.assertEqual(data, again, name)
@@ -345,8 +344,7 @@ class Tool(ToolCase):
         self.write("s.toml", "seed = 5\n")
         self.run_tool("picture", self.write("log", ended(LOG)), "--output", "p.png", "--width", "1600", "--height", "1200",
                       "--scenario", "s.toml")
-        with open(self.path("p.png"), "rb") as file:
-            data = file.read(24)
+        data = self.read("p.png")
         self.assertEqual([int.from_bytes(data[at:at + 4], "big") for at in (16, 20)], [1600, 1200])
 
     def test_many_rows(self):

@@ -482,8 +482,8 @@ class Queues(ToolCase):
         """Poisson arrivals, equal work: Crommelin's mean wait (1932), for one server that of Pollaczek."""
         service, cycle = 1_000, 1_001
         for servers, load in ((1, 0.7), (3, 0.8)):
-            wait = sum(float(figures.special().gammainc(turn * servers, turn * servers * load)
-                             - figures.special().gammainc(turn * servers + 1, turn * servers * load) / load)
+            wait = sum(float(figures.special.gammainc(turn * servers, turn * servers * load)
+                             - figures.special.gammainc(turn * servers + 1, turn * servers * load) / load)
                        for turn in range(1, 400))
             if servers == 1:
                 self.assertAlmostEqual(wait, load / 2 / (1 - load), 6)

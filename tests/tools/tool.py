@@ -10,9 +10,11 @@ import csv
 import importlib.machinery
 import importlib.util
 import os
+import pathlib
 import pickle
 import re
 import shlex
+import shutil
 import socket
 import subprocess
 import sys
@@ -208,10 +210,21 @@ class ToolCase(unittest.TestCase):
         return os.path.join(self.folder, name)
 
     def write(self, name, text):
-        """Writes a file, of a text or of bytes, and returns its path."""
+        """Writes a file, of a text or of bytes, and makes its folder where that is not there; returns its path."""
+        os.makedirs(os.path.dirname(self.path(name)), exist_ok=True)
         with open(self.path(name), "wb") as file:
             file.write(text if isinstance(text, bytes) else text.encode())
         return self.path(name)
+
+    def read(self, name):
+        """The bytes of a file of the test's folder."""
+        with open(self.path(name), "rb") as file:
+            return file.read()
+
+    def copy(self, *names):
+        """Copies files of the repository to their places in the test's folder."""
+        for name in names:
+            shutil.copymode(os.path.join(ROOT, name), self.write(name, pathlib.Path(ROOT, name).read_bytes()))
 
     def script(self, name, text):
         """Writes a file that can be run."""

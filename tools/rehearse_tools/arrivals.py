@@ -52,7 +52,7 @@ from collections.abc import Callable, Iterable, Iterator, Sequence
 from fractions import Fraction
 from typing import Any, NamedTuple
 
-from .console import Fault, Parser, check_output, csv_text, note, print_text, shown, write_text
+from .console import Fault, Parser, check_output, csv_text, note, print_text, refuse, shown, write_text
 from .queues import NAME, json_in, read_any
 from .records import PLAIN_NUMBER, column_of, records_in
 from .scenarios import text_of_string
@@ -201,8 +201,7 @@ def check_status(result: dict[str, Any], path: str) -> None:
 
 def times_of_metric(options: Namespace) -> list[Fraction]:
     points = points_of_metric(json_in(read_any(options.file), options.file), options.id, options.file)
-    if not 1 <= options.period <= 86_400:
-        raise Fault("a period has 1 to 86400 seconds")
+    refuse(not 1 <= options.period <= 86_400, "a period has 1 to 86400 seconds")
     starts = counted_from([time for time, _ in points], options.origin, 1_000)
     chance, times = random.Random(options.seed), []
     for start, (_, count) in sorted(zip(starts, points)):
@@ -243,8 +242,7 @@ def times_of_poisson(options: Namespace) -> list[int]:
 def times_of_bursts(options: Namespace) -> list[Fraction]:
     every, over = duration_of(options.every), duration_of(options.over)
     end, chance, times, start = duration_of(options.duration), random.Random(options.seed), [], Fraction(0)
-    if options.size < 1:
-        raise Fault("--size is at least 1")
+    refuse(options.size < 1, "--size is at least 1")
     while start < end:
         times += within(chance, start, options.size, over)
         check_count(len(times))

@@ -12,7 +12,7 @@ from argparse import Namespace
 from collections.abc import Iterable, Sequence
 from typing import Any, Optional
 
-from .console import Fault, read_text, shown
+from .console import Fault, read_text, refuse, shown
 from .drawing import ALARM, CAPTION, FOOT, GREY, LEFT, LINE, RIGHT, Sheet, head_of, ticks_of
 from .requirements import Requirement, folded_as, interval_of_mean
 from .runs import ALL_COLUMNS
@@ -285,18 +285,15 @@ class Panel:
 
 def sweep_picture(options: Namespace) -> Any:
     """The figure of the columns that were asked for, over the rows of a sweep in a file."""
-    if not options.column:
-        raise Fault("--column is needed, as --column orders.age_p95")
+    refuse(not options.column, "--column is needed, as --column orders.age_p95")
     rows = Rows(options.log)
-    if not rows.rows:
-        raise Fault(f"{options.log} has no variant that ran")
+    refuse(not rows.rows, f"{options.log} has no variant that ran")
     axis = Axis(rows, setting_of(rows, options.setting))
     requirements = [Requirement(text) for text in options.require]
     panels = [Panel(rows, axis, text, options.width - LEFT - RIGHT, requirements)
               for text in dict.fromkeys(options.column)]
     for one in requirements:
-        if not any(one in panel.required for panel in panels):
-            raise Fault(f"{one.text}: no --column is drawn of it")
+        refuse(not any(one in panel.required for panel in panels), f"{one.text}: no --column is drawn of it")
     told = f"rows of variants that failed, and are left out: {rows.failed:,}" if rows.failed else ""
     fixed = head_of(told) + FOOT + sum(panel.head for panel in panels)
     height = PANEL_HEIGHT if options.height is None else (options.height - fixed) // len(panels)

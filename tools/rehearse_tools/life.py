@@ -31,7 +31,7 @@ from collections import Counter
 from collections.abc import Callable, Container, Mapping, Sequence
 from typing import Optional
 
-from .console import Fault, Parser
+from .console import Fault, Parser, refuse
 from .logs import Final, Head, Log, Row, Rows, Take, What, message_of_receipt, tell_open
 from .origins import Forwards, Origins, origin_of
 from .replay import ENTERS, LEAVES, Checked, checked, faults_told, handlers_of, ignored, is_forward, replay
@@ -349,10 +349,9 @@ def main(words: Sequence[str]) -> int:
     parser.add_argument("log", metavar="LOG")
     parser.add_argument("id", metavar="ID", nargs="?")
     options = parser.parse_intermixed_args(words)
-    if options.worst == (options.id is not None):
-        raise Fault("an ID or --worst is needed, and not both (--help tells the usage)")
-    if not 1 <= options.most <= MOST:
-        raise Fault(f"--most is 1 to {MOST:,}")
+    refuse(options.worst == (options.id is not None),
+           "an ID or --worst is needed, and not both (--help tells the usage)")
+    refuse(not 1 <= options.most <= MOST, f"--most is 1 to {MOST:,}")
     log = Log(options.log, rest=options.rest)
     if options.worst:
         tell_worst(log, options.most)

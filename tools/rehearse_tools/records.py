@@ -6,7 +6,7 @@ import io
 import re
 from collections.abc import Sequence
 
-from .console import Fault, shown
+from .console import Fault, refuse, shown
 from .queues import read_any
 from .scripts import FIELD_LIMIT
 
@@ -25,6 +25,5 @@ def records_in(path: str) -> list[list[str]]:
 
 
 def column_of(header: Sequence[str], name: str, path: str) -> int:
-    if name not in header:
-        raise Fault(f"{path} has no column {shown(name)}; it has {', '.join(map(shown, header))}")
+    refuse(name not in header, f"{path} has no column {shown(name)}; it has {', '.join(map(shown, header))}")
     return header.index(name)
