@@ -41,6 +41,11 @@ class Made(ToolCase):
             facts.main([])
 
 
+    def test_the_places_of_facts_are_counted(self):
+        self.assertRegex(self.output("facts", "--count"), r"\A *\d+  the key gather_ms\n *\d+  its greatest value 300,000\n"
+                         r" *\d+  the refusal OverLimit\n *\d+  the column received_again\n\Z")
+
+
 class Told(unittest.TestCase):
     def test_refusals_of_the_code_and_the_definitions(self):
         """Their numbers, their names, and the status of the program that each brings."""
