@@ -116,8 +116,7 @@ def chosen_of(parts: Mapping[str, Part], only: str, is_quick: bool) -> list[Part
     if only:
         names = only.split(",")
     for name in names:
-        if name not in parts:
-            raise Fault(f"there is no part {name}; there are {', '.join(sorted(parts))}")
+        refuse(name not in parts, f"there is no part {name}; there are {', '.join(sorted(parts))}")
     return sorted((parts[name] for name in dict.fromkeys(names)), key=lambda part: -SECONDS.get(part.name, 0))
 
 
@@ -125,8 +124,7 @@ def chosen_of(parts: Mapping[str, Part], only: str, is_quick: bool) -> list[Part
 def late_of(given: str | None) -> str | None:
     """The path of the program whose workers are late: the one that is given, or that was built from these sources."""
     if given is not None:
-        if not os.path.isfile(given) or not os.access(given, os.X_OK):
-            raise Fault(f"there is no program {given}")
+        refuse(not os.path.isfile(given) or not os.access(given, os.X_OK), f"there is no program {given}")
         return os.path.realpath(given)
     built = os.path.join(TOP, "crates", LATE_CRATE, "out", LATE_CRATE)
     if not os.access(built, os.X_OK):

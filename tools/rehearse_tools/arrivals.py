@@ -134,8 +134,7 @@ def counted_from(times: Sequence[Fraction], origin: str | None, unit: int) -> li
     start = min(times) if origin is None else moment(origin, unit)
     if start is None:
         raise Fault(f"{shown(str(origin))} is no time")
-    if min(times) < start:
-        raise Fault(f"a time is before the origin {origin}")
+    refuse(min(times) < start, f"a time is before the origin {origin}")
     return [time - start for time in times]
 
 
@@ -162,8 +161,7 @@ def times_of_file(options: Namespace) -> list[Arrival]:
                             f"{shown(name)}")
         times.append(time)
         others.append((body, *ids))
-    if not times:
-        raise Fault(f"{path} has no times")
+    refuse(not times, f"{path} has no times")
     return [Arrival(time, *other) for time, other in zip(counted_from(times, options.origin, unit), others)]
 
 
@@ -305,8 +303,7 @@ def write_scripts(records: list[list[Any]], options: Namespace) -> None:
     tables = []
     for path, part in zip(paths, parts):
         text = csv_text([HEADER, *part])
-        if len(text.encode("utf-8", "replace")) > BYTES_MOST:
-            raise Fault(f"a script has over {BYTES_MOST:,} bytes")
+        refuse(len(text.encode("utf-8", "replace")) > BYTES_MOST, f"a script has over {BYTES_MOST:,} bytes")
         write_text(path, text)
         name = os.path.splitext(os.path.basename(path))[0]
         tables.append(f'[[actor]]\nname = {text_of_string(name)}\nkind = "script"\n'

@@ -205,8 +205,7 @@ def check_output(path: str | None, inputs: Iterable[str | None] = ()) -> None:
         return
     folder = os.path.dirname(os.path.abspath(path))
     try:
-        if not os.path.exists(folder):
-            raise Fault(f"cannot write {path}: there is no folder {os.path.dirname(path)}")
+        refuse(not os.path.exists(folder), f"cannot write {path}: there is no folder {os.path.dirname(path)}")
         if not os.path.isdir(folder):
             raise OSError(errno.ENOTDIR, os.strerror(errno.ENOTDIR))
         if os.path.isdir(path):

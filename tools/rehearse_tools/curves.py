@@ -51,8 +51,7 @@ class Rows:
         self.columns = rest[3:] if self.is_folded else rest[2:]
         known = [f"{column}_{of}" for column in ALL_COLUMNS for of in folded_as(column)] \
             if self.is_folded else ALL_COLUMNS
-        if rest[:2] != ["failed", "queue"] or not set(self.columns) <= set(known):
-            raise Fault(f"{path} has no rows of a sweep")
+        refuse(rest[:2] != ["failed", "queue"] or not set(self.columns) <= set(known), f"{path} has no rows of a sweep")
         self.rows: list[tuple[dict[str, str], str, int, dict[str, float]]] = []
         self.failed = 0
         for place, record in enumerate(records[1:], 2):
@@ -124,8 +123,7 @@ def curves_of(rows: Rows, setting: str, text: str) -> list[Curve]:
     if queue not in rows.queues():
         raise Fault(f"{shown(text)}: the sweep has no queue {shown(queue)}; it has {', '.join(rows.queues())}")
     keys = [f"{column}_{of}" for of in ("mean", "least", "greatest")] if rows.is_folded else [column] * 3
-    if not set(keys) <= set(rows.columns):
-        raise Fault(f"{shown(text)}: the sweep has no column {shown(column)}")
+    refuse(not set(keys) <= set(rows.columns), f"{shown(text)}: the sweep has no column {shown(column)}")
     curves: dict[tuple[tuple[str, str], ...], Curve] = {}
     for varied, name, runs, numbers in rows.rows:
         if name == queue:

@@ -61,8 +61,7 @@ def found_in(path: str, parameters: dict[str, str]) -> tuple[dict[str, Found], W
 
 
 def queue_from(found: Found, latency: int, called: dict[str, str]) -> Queue:
-    if not NAME.fullmatch(found.name):
-        raise Fault(f"{found.place} has a name that no scenario has: {shown(found.name)}")
+    refuse(not NAME.fullmatch(found.name), f"{found.place} has a name that no scenario has: {shown(found.name)}")
     queue = queue_of(found.name, found.attributes, latency, called, found.unknown)
     for note in found.notes:
         queue.note(note)
@@ -76,7 +75,6 @@ def main(words: Sequence[str]) -> int:
     options = parser.parse_args(words)
     check_options(options, [options.file])
     found, wiring, source, called = found_in(options.file, parameters_of(options.parameter))
-    if not found:
-        raise Fault(f"{options.file} has no queues")
+    refuse(not found, f"{options.file} has no queues")
     queues = [queue_from(queue, options.latency, called) for queue in found.values()]
     return tell_and_write(with_dead_letters(queues, "resource"), options, source, wiring, options.v3)

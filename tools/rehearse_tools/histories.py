@@ -11,7 +11,7 @@ from collections import Counter
 from collections.abc import Sequence
 from typing import Any, NamedTuple
 
-from .console import Fault, Library, shown
+from .console import Fault, Library, refuse, shown
 from .logs import NUMBER, Head, Log, What
 from .replay import (DELAYED, IN_FLIGHT, NOWHERE, VISIBLE, BadRow, Places, Replay, copies_in, handlers_of, replay,
                      take_finals)
@@ -169,8 +169,7 @@ class Histories:
             self.read(log)
         except OverflowError as reason:
             raise Fault(f"{log.path} line {log.line}: {cannot_be(str(reason))}") from None
-        if not self.queues:
-            raise Fault(f"{log.path} has no rows to draw")
+        refuse(not self.queues, f"{log.path} has no rows to draw")
         take_finals(log, self.queues)
         self.known = None if log.is_open else list(log.report)
 

@@ -77,8 +77,7 @@ def rehearse(scenario: str, settings: Mapping[str, Value] | None = None, scripts
         words = {Setting(name): word_of(value) for name, value in (settings or {}).items()}
         text = written(varied(scenario_at(path), words))
         status, told = ran(command, text.encode("utf-8", "replace"), out)
-        if status:
-            raise Fault(first_line(told))
+        refuse(status, first_line(told))
         output = f"/dev/fd/{out.fileno()}"
         log = Log(output, wanted=PARTS)
         rows = table_of(LOG_HEADER, log.rows(), as_lists)

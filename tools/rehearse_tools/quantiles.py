@@ -107,8 +107,7 @@ def times_in(path: str, column: str | None) -> list[float]:
     texts = [",".join(record) if place is None else "".join(record[place:place + 1]) for record in records]
     times = [time_of(text.strip(), f"{path}: record {number}")
              for number, text in enumerate(texts, 1) if place is None or number > 1]
-    if not times:
-        raise Fault(f"{path} has no times")
+    refuse(not times, f"{path} has no times")
     return sorted(times)
 
 

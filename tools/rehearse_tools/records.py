@@ -19,8 +19,7 @@ def records_in(path: str) -> list[list[str]]:
         records = [record for record in csv.reader(io.StringIO(read_any(path), newline=""), strict=True) if record]
     except csv.Error as error:
         raise Fault(f"{path} is not CSV: {error}") from None
-    if not records:
-        raise Fault(f"{path} has no times")
+    refuse(not records, f"{path} has no times")
     return records
 
 

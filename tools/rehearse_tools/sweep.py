@@ -258,8 +258,7 @@ def base_of(options: argparse.Namespace) -> tuple[str, str]:
 def check_spread(settings: Settings, options: argparse.Namespace, requirements: Requirements) -> None:
     """Makes sure that what is put together, and what is set against, is varied."""
     if options.spread:
-        if not settings.tied(options.spread):
-            raise Fault(f"{options.spread} is not varied, so that nothing spreads over it")
+        refuse(not settings.tied(options.spread), f"{options.spread} is not varied, so that nothing spreads over it")
         settings.check_doubles()
         check_library("scipy", "python3-scipy")
         requirements.spread = settings.tied(options.spread)

@@ -46,8 +46,7 @@ def values_of(text: str) -> list[str]:
         bounds = RANGE.fullmatch(match[1])
         if bounds:
             numbers = range(int(bounds[1]), int(bounds[2]) + 1, int(bounds[3] or 1))
-            if not 0 < len(numbers) <= VARIANTS_MOST:
-                raise Fault(f"{match[1]} has no values or over {VARIANTS_MOST}")
+            refuse(not 0 < len(numbers) <= VARIANTS_MOST, f"{match[1]} has no values or over {VARIANTS_MOST}")
             words += map(str, numbers)
         else:
             words.append(match[1])
@@ -73,8 +72,7 @@ class Settings:
         self.axes: list[list[str]] = []
         for kind, words in self.given:
             self.add(kind, words)
-        if len(self) > VARIANTS_MOST:
-            raise Fault(f"over {VARIANTS_MOST} variants")
+        refuse(len(self) > VARIANTS_MOST, f"over {VARIANTS_MOST} variants")
 
     def add(self, kind: str, words: str) -> None:
         path, equals, values = words.partition("=")
