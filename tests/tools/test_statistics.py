@@ -1,7 +1,6 @@
 """Tests what is concluded from runs: by tables and closed forms, by coverage, and by queues whose laws are known."""
 import csv
 import functools
-import io
 import itertools
 import math
 import operator
@@ -12,11 +11,10 @@ import sys
 import unittest
 from collections.abc import Callable, Iterator
 
-from tool import PROGRAM, ROOT, TOOLS, ToolCase, module_at, needs_program, ran, text_at
+from tool import PROGRAM, ROOT, TOOLS, ToolCase, module_at, needs_program, ran, report_in, text_at
 
 from scenario_texts import consumer, queue_of, scenario_of, table
 from rehearse_tools import statistics as figures
-from rehearse_tools.logs import REPORT_HEADER
 
 REPETITIONS = 1_000
 # Most of the counts of 200 sweeps occur in many of them.
@@ -453,8 +451,7 @@ class Queues(ToolCase):
 
     def mean_age(self, report: str) -> float:
         """The mean age in milliseconds of all messages, which have all been deleted."""
-        records = list(csv.reader(io.StringIO(report)))
-        row = dict(zip(REPORT_HEADER, records[records.index(REPORT_HEADER) + 1]))
+        row = report_in(report)
         self.assertEqual(row["deletes"], row["sends"])
         return int(row["age_sum"]) / int(row["deletes"])
 

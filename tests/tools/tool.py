@@ -164,6 +164,12 @@ def printed(*words, text=None):
     return out
 
 
+def report_in(output, queue="q"):
+    """What the report that a run has printed says of a queue, by its columns."""
+    lines = (line for line in output.split("\n") if line.startswith(("report,queue,", f"report,{queue},")))
+    return dict(zip(*(line.split(",") for line in lines)))
+
+
 def ended(log, finals="", queues=()):
     """What a run prints that has this log: these records of its final queues follow, and a report that counts the rows
     of the log's queues, and of others. It has no numbers of ages, and no greatest depth."""
