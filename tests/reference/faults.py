@@ -33,3 +33,9 @@ class Refused(Exception):
     def __init__(self, number: int) -> None:
         super().__init__(number)
         self.name = NAMES[number]
+
+
+def grant(holds: object, number: int) -> None:
+    """Raises the refusal of a number unless something holds."""
+    if not holds:
+        raise Refused(number)
