@@ -286,8 +286,8 @@ def there(rows: Iterable[Fields], stretch: Stretch) -> dict[str, int]:
 
 
 def ages_apart(rows: Sequence[Fields], queues: Container[str], stretch: Stretch, length: int) -> Told:
-    """The ages, and then their bounds, of all messages that a stretch deleted, of those that came by no move, and of the
-    others."""
+    """The ages, and then their bounds, of all messages that a stretch deleted, of those that came by no move, and of
+    the others."""
     moves = [*of_moved(rows, queues)]
     deleted = [(is_moved, row) for is_moved, row in zip(moves, rows)
                if stretch.has(row) and row.said() == "delete deleted"]

@@ -442,9 +442,9 @@ class Queues(ToolCase):
             actors = [consumer("c0", "q", service, **keys, scaler="x", copies=consumers + 3),
                       table("actor", name="x", kind="scaler", queue="q", every_s=60, visible_per_copy=1,
                             copies_min=consumers, copies_max=consumers)]
-        path = self.write("s.toml", scenario_of(
-            last + 10_000_000, queue_of("q", visibility_s=3600),
-            table("actor", name="s", kind="script", queue="q", script="sends.csv"), *actors, version=3 if scaled else 1))
+        sender = table("actor", name="s", kind="script", queue="q", script="sends.csv")
+        path = self.write("s.toml", scenario_of(last + 10_000_000, queue_of("q", visibility_s=3600), sender, *actors,
+                                                version=3 if scaled else 1))
         words = ["--log", self.path("log.csv")] if log else ["--log", os.devnull]
         preview = ["--preview"] if scaled else []
         return self.ends(0, ran([PROGRAM, "run", *preview, *words, "--scripts", self.folder, path]))[0]
