@@ -2,7 +2,7 @@
 import json
 import os
 
-from tool import ToolCase, needs_program, printed, text_at
+from tool import ToolCase, needs_program, printed, report_in, text_at
 from rehearse_tools.console import toml_of
 
 ARN = "arn:aws:sqs:eu-central-1:123456789012:"
@@ -88,9 +88,7 @@ class FromQueue(ToolCase):
         status, out, err = self.run_tool("from-queue", path, "--depth", "--horizon", "1000", "--output", "s.toml")
         self.assertEqual((status, out), (0, ""))
         self.assertIn("from-queue: orders: its 3 messages in flight are left out: ", err)
-        run = printed("run", "--log", os.devnull, self.path("s.toml"))
-        records = [line.split(",") for line in run.splitlines() if line.startswith("report,")]
-        report = dict(zip(records[0], next(record for record in records if record[1] == "orders")))
+        report = report_in(printed("run", "--log", os.devnull, self.path("s.toml")), "orders")
         self.assertEqual([report[key] for key in ("sends", "visible", "delayed")], ["2508", "2501", "7"])
         actors = toml_of(self.read("s.toml").decode())["actor"]
         self.assertEqual([(actor["name"], actor["count"], actor.get("delay_s")) for actor in actors],
