@@ -41,7 +41,7 @@ from typing import NamedTuple
 TOP = os.path.dirname(os.path.dirname(os.path.abspath(__file__)))
 sys.path.insert(0, os.path.join(TOP, "tools"))
 import crate_list  # noqa: E402 (the folder of the tools comes first)
-from rehearse_tools.console import Fault, Parser, Progress, ended, is_terminal  # noqa: E402
+from rehearse_tools.console import Fault, Parser, Progress, ended, is_terminal, refuse  # noqa: E402
 from rehearse_tools.programs import program_itself  # noqa: E402
 
 LATE_CRATE = "sqs_late_workers"
@@ -116,8 +116,7 @@ def chosen_of(parts: Mapping[str, Part], only: str, is_quick: bool) -> list[Part
     if only:
         names = only.split(",")
     for name in names:
-        if name not in parts:
-            raise Fault(f"there is no part {name}; there are {', '.join(sorted(parts))}")
+        refuse(name not in parts, f"there is no part {name}; there are {', '.join(sorted(parts))}")
     return sorted((parts[name] for name in dict.fromkeys(names)), key=lambda part: -SECONDS.get(part.name, 0))
 
 
@@ -125,8 +124,7 @@ def chosen_of(parts: Mapping[str, Part], only: str, is_quick: bool) -> list[Part
 def late_of(given: str | None) -> str | None:
     """The path of the program whose workers are late: the one that is given, or that was built from these sources."""
     if given is not None:
-        if not os.path.isfile(given) or not os.access(given, os.X_OK):
-            raise Fault(f"there is no program {given}")
+        refuse(not os.path.isfile(given) or not os.access(given, os.X_OK), f"there is no program {given}")
         return os.path.realpath(given)
     built = os.path.join(TOP, "crates", LATE_CRATE, "out", LATE_CRATE)
     if not os.access(built, os.X_OK):
@@ -345,10 +343,8 @@ def options_of(words: Sequence[str]) -> Namespace:
     reading.add_argument("--only", default="")
     reading.add_argument("--limit", type=float, default=3600)
     options = reading.parse_args(words)
-    if options.quick and options.only:
-        raise Fault("--quick and --only exclude each other")
-    if options.jobs < 1:
-        raise Fault("--jobs is at least 1")
+    refuse(options.quick and options.only, "--quick and --only exclude each other")
+    refuse(options.jobs < 1, "--jobs is at least 1")
     return options
 
 

@@ -22,6 +22,7 @@ from __future__ import annotations
 import csv
 import hashlib
 import io
+import re
 import sys
 from collections.abc import Iterable, Mapping, Sequence
 
@@ -33,6 +34,8 @@ OPEN = ("reading_on_literals running_on_literals columns_of")
 # again. A run that has ended stays as it is.
 MORE_HANDLINGS = 60
 VERSION_3 = "shown_upto 3"
+# What a literal can have, or one byte that it can't; and how a literal has some letters.
+PIECES, ESCAPES = re.compile(rb"([\n -~]+)|(.)", re.S), str.maketrans({"\\": "\\\\", '"': '\\"', "\n": "\\n"})
 
 HEAD = """-- Scenarios with their right output, computed over the definitions. Made by tools/compute_cases.py.
 use Rattle.std.proofs.Common.{◌≡◌, ℕ, true, List, [], ◌∷◌, ◌++◌, codes, refl}
@@ -44,28 +47,8 @@ use Rattle.sqs_examples.proofs.Shown.{running_on_literals, digest, ran, refused,
 
 def quoted(text: bytes) -> str:
     """An antt term for a text: a literal, cut into parts at bytes that a literal can't have."""
-    pieces, plain = [], ""
-
-    def close() -> None:
-        nonlocal plain
-        if plain:
-            pieces.append('codes "%s"' % plain)
-            plain = ""
-
-    for byte in text:
-        char = chr(byte)
-        if char == "\\":
-            plain += "\\\\"
-        elif char == '"':
-            plain += '\\"'
-        elif char == "\n":
-            plain += "\\n"
-        elif 32 <= byte < 127:
-            plain += char
-        else:
-            close()
-            pieces.append("(%d ∷ [])" % byte)
-    close()
+    pieces = ['codes "%s"' % plain.decode().translate(ESCAPES) if plain else "(%d ∷ [])" % other[0]
+              for plain, other in PIECES.findall(text)]
     return "(" + " ++ ".join(pieces) + ")" if pieces else "[]"
 
 

@@ -26,7 +26,7 @@ import tempfile
 from collections.abc import Iterator, Sequence
 from typing import Any
 
-from rehearse_tools.console import Fault, read_bytes, read_text, write_bytes
+from rehearse_tools.console import Fault, read_bytes, read_text, refuse, write_bytes
 from rehearse_tools.programs import TOP
 
 # The kits whose insides this file knows.
@@ -72,8 +72,7 @@ def kit_folder() -> str:
     if line not in KITS:
         raise Fault(f"{line} is here, and tools/page_module.py is for {' or '.join(KITS)}: "
                     "--module takes a module that was built")
-    if shutil.which("wasm-opt") is None:
-        raise Fault("wasm-opt is missing: Debian's package binaryen has it")
+    refuse(shutil.which("wasm-opt") is None, "wasm-opt is missing: Debian's package binaryen has it")
     return os.path.dirname(os.path.dirname(os.path.realpath(rt)))
 
 
@@ -111,8 +110,7 @@ def captured(kit: str, work: str) -> str:
     done([f"{kit}/bin/rattle", "build", *words_of_crate(kit), "--cpu", "x86-64", "--toolchain",
           os.path.join(work, "toolchain"), "--backend", "llvm", "-o", os.path.join(work, "lib.a")],
          os.path.join(TOP, "crates", CRATE))
-    if not os.path.exists(bitcode):
-        raise Fault("rattle gave no bitcode to clang: tools/page_module.py is to be mended")
+    refuse(not os.path.exists(bitcode), "rattle gave no bitcode to clang: tools/page_module.py is to be mended")
     return bitcode
 
 
@@ -123,8 +121,7 @@ def compiled(kit: str, work: str, bitcode: str) -> str:
     done([clang, "--target=x86_64-unknown-linux-gnu", "-x", "ir", bitcode, "-S", "-emit-llvm", "-Xclang",
           "-disable-llvm-passes", "-o", read], work)
     text = read_text(read)
-    if PROCESSOR_ALONE.search(text):
-        raise Fault("the bitcode of the crate has code for x86-64 alone")
+    refuse(PROCESSOR_ALONE.search(text), "the bitcode of the crate has code for x86-64 alone")
     for pattern, new in ((r"^target datalayout = .*", f'target datalayout = "{LAYOUT}"'),
                          (r"^target triple = .*", f'target triple = "{TRIPLE}"')):
         text = re.sub(pattern, new, text, flags=re.M)
@@ -179,8 +176,7 @@ def without_table(module: bytes) -> bytes:
     """The module without its table, which nothing fills."""
     kept = [module[:len(SIGN) + 4]]
     for number, whole, _ in sections(module):
-        if number == ELEMENTS:
-            raise Fault("the table of the module is filled: tools/page_module.py is to be mended")
+        refuse(number == ELEMENTS, "the table of the module is filled: tools/page_module.py is to be mended")
         if number != TABLES:
             kept.append(whole)
     return b"".join(kept)

@@ -16,7 +16,7 @@ from typing import Any
 
 import release
 from rehearse_tools import explain, scripts, summaries
-from rehearse_tools.console import Fault, read_bytes, read_text, write_bytes
+from rehearse_tools.console import Fault, read_bytes, read_text, refuse, write_bytes
 from rehearse_tools.keys import ACTORS, ITEMS, VERSIONS, Key, keys_of
 from rehearse_tools.programs import TOP
 from rehearse_tools.scenarios import parsed
@@ -167,12 +167,10 @@ def bundler_fault() -> str:
 
 def bundled(folder: str, name: str) -> str:
     """A module in a folder with those that it imports, as one script."""
-    if missing():
-        raise Fault(missing())
+    refuse(missing(), missing())
     ran = subprocess.run([BUNDLER, name, *BUNDLED], cwd=folder, stdin=subprocess.DEVNULL, capture_output=True, text=True,
                          env={**os.environ, "NODE_PATH": LIBRARIES})
-    if ran.returncode:
-        raise Fault(f"{BUNDLER} cannot put page/{name} together: {ran.stderr.strip()}")
+    refuse(ran.returncode, f"{BUNDLER} cannot put page/{name} together: {ran.stderr.strip()}")
     return ran.stdout
 
 
@@ -183,8 +181,7 @@ def as_json(value: Any) -> str:
 
 def checked(text: str, what: str) -> str:
     """A text that stands between tags as it is."""
-    if re.search("</(script|style)|<!--", text, re.I):
-        raise Fault(f"{what} has a text that ends the script of the page")
+    refuse(re.search("</(script|style)|<!--", text, re.I), f"{what} has a text that ends the script of the page")
     return text
 
 

@@ -8,7 +8,7 @@ import io
 import os
 import subprocess
 
-from rehearse_tools.console import Fault, read_bytes, read_text, write_bytes
+from rehearse_tools.console import Fault, read_bytes, read_text, refuse, write_bytes
 from crate_list import newest_source
 from rehearse_tools.programs import TOP, program_itself
 
@@ -41,8 +41,7 @@ def sum_of(data: bytes) -> str:
 
 def built_program() -> str:
     """The path of the program that ./sqs_rehearse has built from the sources as they are."""
-    if not os.path.exists(BUILT):
-        raise Fault("the program is not built yet: ./sqs_rehearse --build builds it")
+    refuse(not os.path.exists(BUILT), "the program is not built yet: ./sqs_rehearse --build builds it")
     moment, path = newest_source([os.path.join(TOP, "crates")])
     if moment > os.stat(BUILT).st_mtime:
         raise Fault(f"{os.path.relpath(path, TOP)} is newer than the program: ./sqs_rehearse --build builds it anew")
@@ -55,8 +54,7 @@ def printed_by(command: list[str]) -> bytes:
         ran = subprocess.run(command, stdin=subprocess.DEVNULL, capture_output=True)
     except OSError as error:
         raise Fault(f"cannot run {command[0]}: {error.strerror}") from None
-    if ran.returncode:
-        raise Fault(f"{' '.join(command)} ends with status {ran.returncode}")
+    refuse(ran.returncode, f"{' '.join(command)} ends with status {ran.returncode}")
     return ran.stdout
 
 
@@ -81,8 +79,7 @@ def name_page() -> None:
 def make(given: str | None) -> str:
     """Makes dist/ anew from a program, or from the one that was built; gives a line on what was done."""
     data = read_bytes(program_itself(given) if given else built_program())
-    if data[:4] != b"\x7fELF" or data[18:20] != X86_64:
-        raise Fault(f"{given or BUILT} is no program for Linux on x86-64")
+    refuse(data[:4] != b"\x7fELF" or data[18:20] != X86_64, f"{given or BUILT} is no program for Linux on x86-64")
     made = {os.path.join(DIST, PACKED): packed(data), MANIFEST: manifest_of(data)}
     if all(os.path.exists(path) and read_bytes(path) == new for path, new in made.items()):
         return "dist/ has this program and its manifest already"

@@ -19,7 +19,7 @@ import sys
 from collections.abc import Iterator, Sequence
 from typing import NamedTuple
 
-from rehearse_tools.console import Fault, Parser, ended, print_text, read_bytes
+from rehearse_tools.console import Fault, Parser, ended, print_text, read_bytes, refuse
 from rehearse_tools.programs import TOP
 
 CASES = os.path.join(TOP, "tests", "cases")
@@ -59,8 +59,7 @@ class Case(NamedTuple):
 def refusals_in(path: str) -> Iterator[Case]:
     """The cases of a file of refusals."""
     before, *parts = HEAD.split(read_bytes(path))
-    if before or not parts:
-        raise Fault(f"{path} does not begin with a line '=== NAME: refused ..'")
+    refuse(before or not parts, f"{path} does not begin with a line '=== NAME: refused ..'")
     folder = os.path.basename(path).removesuffix(END)
     for name, line, text in zip(parts[::3], parts[1::3], parts[2::3]):
         text = text.removesuffix(b"\n")

@@ -1,40 +1,16 @@
 """Scripts, producers, consumers and scalers: what each does when it wakes, and when it wakes next."""
+from __future__ import annotations
+
 from collections.abc import Sequence
-from typing import Protocol
+from typing import TYPE_CHECKING
 
 from queues import Load, Message
 from settings import (ActorSettings, ConsumerSettings, Forwarding, ProducerSettings, ScalerSettings, Scaling,
                       ScriptSettings)
 from words import Draws, place_by_weight
 
-
-class Home(Protocol):
-    """What an actor may do at its site."""
-
-    now: int
-    number: int
-    names: list[str]
-
-    def row(self, agent: int, call: str, answer: str, message: str = "", receipt: str = "",
-            detail: object = "") -> None: ...
-
-    def transfer(self, agent: int, target: int, time: int, load: Load) -> None: ...
-
-    def send(self, agent: int, body: str, group: str | None, id: str | None, delay_s: int | None) -> None: ...
-
-    def receive(self, actor: "Actor", most: int, wait_s: int, timeout_s: int | None) -> list[Message] | None: ...
-
-    def delete(self, agent: int, receipt: str) -> None: ...
-
-    def change(self, agent: int, receipt: str, timeout_s: int) -> None: ...
-
-    def start_or_cancel(self, agent: int, call: str, name: str) -> None: ...
-
-    def visibility_s(self) -> int: ...
-
-    def visible(self) -> int: ...
-
-    def scaler(self, agent: int) -> "Scaler": ...
+if TYPE_CHECKING:
+    from sites import Site
 
 
 class Actor:
@@ -44,15 +20,15 @@ class Actor:
         self.agent, self.draws, self.next_wake = agent, Draws(seed, agent), first_wake
         self.wakes = self.polls = 0
 
-    def woken(self, home: Home) -> None:
+    def woken(self, home: Site) -> None:
         """Its wake has come."""
         self.wakes, self.next_wake = self.wakes + 1, None
         self.wake(home, self.wakes - 1)
 
-    def wake(self, home: Home, number: int) -> None:
+    def wake(self, home: Site, number: int) -> None:
         raise NotImplementedError
 
-    def got(self, home: Home, messages: Sequence[Message]) -> None:
+    def got(self, home: Site, messages: Sequence[Message]) -> None:
         """Its poll was answered with messages, or ended with none."""
 
 
@@ -63,7 +39,7 @@ class Script(Actor):
         super().__init__(agent, seed, settings.calls[0].at if settings.calls else None)
         self.calls = settings.calls
 
-    def wake(self, home: Home, number: int) -> None:
+    def wake(self, home: Site, number: int) -> None:
         call, later = self.calls[number], self.calls[number + 1:]
         if later:
             self.next_wake = later[0].at
@@ -86,7 +62,7 @@ class Producer(Actor):
         super().__init__(agent, seed, settings.start)
         self.settings = settings
 
-    def wake(self, home: Home, number: int) -> None:
+    def wake(self, home: Site, number: int) -> None:
         settings = self.settings
         if settings.stop is not None and home.now >= settings.stop:
             return
@@ -106,7 +82,7 @@ class Producer(Actor):
 class Held:
     """A message that a consumer got, with its receipt."""
 
-    def __init__(self, home: Home, message: Message) -> None:
+    def __init__(self, home: Site, message: Message) -> None:
         self.id, self.body, self.group = f"m-{home.number}-{message.number}", message.body, message.group
         self.receipt = f"r-{home.number}-{message.number}-{message.receives}"
         self.receives = message.receives
@@ -130,7 +106,7 @@ class Consumer(Actor):
         self.is_gathering = False
         self.gather_end = 0
 
-    def wake(self, home: Home, number: int) -> None:
+    def wake(self, home: Site, number: int) -> None:
         settings = self.settings
         if self.unsettled:
             self.settle_next(home)
@@ -146,7 +122,7 @@ class Consumer(Actor):
         elif settings.stop is None or home.now < settings.stop:
             self.ask(home, settings.batch, settings.wait_s)
 
-    def goes_on(self, home: Home, scaling: Scaling) -> bool:
+    def goes_on(self, home: Site, scaling: Scaling) -> bool:
         """Whether a copy that has nothing to do may ask now. One that its scaler does not want parks until the scaler
         wakes next. One that was parked and is wanted asks when it has started."""
         scaler, was_parked = home.scaler(scaling.scaler), self.is_parked
@@ -157,12 +133,12 @@ class Consumer(Actor):
             self.next_wake = home.now + max(1, scaling.start)
         return not (self.is_parked or was_parked)
 
-    def ask(self, home: Home, most: int, wait_s: int) -> None:
+    def ask(self, home: Site, most: int, wait_s: int) -> None:
         messages = home.receive(self, most, wait_s, self.settings.timeout_s)
         if messages is not None:
             self.got(home, messages)
 
-    def got(self, home: Home, messages: Sequence[Message]) -> None:
+    def got(self, home: Site, messages: Sequence[Message]) -> None:
         if not messages and not self.is_gathering:
             self.next_wake = home.now + self.settings.idle
             return
@@ -171,7 +147,7 @@ class Consumer(Actor):
         self.batch += [Held(home, message) for message in messages]
         self.gather(home, 0 if messages else self.settings.idle)
 
-    def gather(self, home: Home, pause: int) -> None:
+    def gather(self, home: Site, pause: int) -> None:
         """Asks for more after a pause, no later than at the end of the time for that. It serves what it has if its
         batch is whole, that time is over, or it may not ask any more by then."""
         settings, again = self.settings, max(home.now + 1, min(self.gather_end, home.now + pause))
@@ -183,7 +159,7 @@ class Consumer(Actor):
             self.unserved = list(self.batch)
             self.begin_service(home)
 
-    def begin_service(self, home: Home) -> None:
+    def begin_service(self, home: Site) -> None:
         """Of the next message, or of the whole batch if it is served at once."""
         settings = self.settings
         time = settings.service.drawn(self.draws) + len(self.batch) * (settings.each_ms or 0)
@@ -198,13 +174,13 @@ class Consumer(Actor):
         is_of_batch = self.settings.is_whole and self.settings.each_ms is not None
         return self.unserved if is_of_batch else self.unserved[:1]
 
-    def fails(self, home: Home, served: Sequence[Held]) -> bool:
+    def fails(self, home: Site, served: Sequence[Held]) -> bool:
         """Draws whether a service of some messages fails at this moment, by chance or by one of their bodies."""
         settings, fails_by_chance = self.settings, self.draws.chance(self.settings.fail_permille_at(home.now))
         is_poison = settings.fails_on is not None and any(settings.fails_on in held.body for held in served)
         return fails_by_chance or is_poison
 
-    def serve_next(self, home: Home) -> None:
+    def serve_next(self, home: Site) -> None:
         """Begins the next service. If its message was served with those before it, 1 ms later it is decided how that
         ended. Without a message it asks 1 ms later."""
         if self.unserved and self.settings.each_ms is None:
@@ -212,17 +188,17 @@ class Consumer(Actor):
         else:
             self.next_wake = home.now + 1
 
-    def wake_in_service(self, home: Home) -> None:
+    def wake_in_service(self, home: Site) -> None:
         """The next wake is the end of the service, or the next heartbeat if that is before it."""
         heartbeat = self.settings.heartbeat
         self.next_wake = self.service_end if heartbeat is None else min(self.service_end, home.now + heartbeat)
 
-    def beat(self, home: Home) -> None:
+    def beat(self, home: Site) -> None:
         timeout_s = self.settings.timeout_s
         home.change(self.agent, self.unserved[0].receipt, home.visibility_s() if timeout_s is None else timeout_s)
         self.wake_in_service(home)
 
-    def end_service(self, home: Home) -> None:
+    def end_service(self, home: Site) -> None:
         served = self.in_service()
         self.unserved = self.unserved[len(served):]
         if self.settings.fail_service is None:
@@ -235,7 +211,7 @@ class Consumer(Actor):
             self.settle(home, served[0])
             self.serve_next(home)
 
-    def go_on_with_batch(self, home: Home) -> None:
+    def go_on_with_batch(self, home: Site) -> None:
         """After a service of a batch that fails as a whole."""
         if self.has_failed:
             self.unserved = []
@@ -247,11 +223,11 @@ class Consumer(Actor):
             self.unsettled = list(self.batch)
             self.settle_next(home)
 
-    def settle_next(self, home: Home) -> None:
+    def settle_next(self, home: Site) -> None:
         self.settle(home, self.unsettled.pop(0))
         self.next_wake = home.now + 1
 
-    def settle(self, home: Home, held: Held) -> None:
+    def settle(self, home: Site, held: Held) -> None:
         """After a failure the message gets its backoff, if there is one; else it is forwarded and deleted."""
         backoff_s = self.settings.backoff_s
         if not self.has_failed:
@@ -264,7 +240,7 @@ class Consumer(Actor):
                 timeout_s = self.draws.uniform(0, timeout_s)
             home.change(self.agent, held.receipt, timeout_s)
 
-    def forward(self, home: Home, held: Held, forward: Forwarding) -> None:
+    def forward(self, home: Site, held: Held, forward: Forwarding) -> None:
         for queue in forward.queues:
             time = forward.latency.drawn(self.draws)
             home.row(self.agent, "forward", "out", held.id, "", home.names[queue])
@@ -280,7 +256,7 @@ class Scaler(Actor):
         # The number that it read and has not decided by.
         self.read: int | None = None
 
-    def wake(self, home: Home, number: int) -> None:
+    def wake(self, home: Site, number: int) -> None:
         settings = self.settings
         if self.read is None and settings.reading > 0:
             self.read, self.next_wake = home.visible(), home.now + settings.reading

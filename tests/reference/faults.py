@@ -21,9 +21,21 @@ class Fault(Exception):
         return f"refused {self.number} {NAMES[self.number]}{values}{place}"
 
 
+def must(holds: object, number: int, place: str) -> None:
+    """Raises the fault of a number at a place unless something holds."""
+    if not holds:
+        raise Fault(number, place)
+
+
 class Refused(Exception):
     """The answer to a call that a queue or a task refuses, by its number."""
 
     def __init__(self, number: int) -> None:
         super().__init__(number)
         self.name = NAMES[number]
+
+
+def grant(holds: object, number: int) -> None:
+    """Raises the refusal of a number unless something holds."""
+    if not holds:
+        raise Refused(number)

@@ -25,6 +25,8 @@ NAMES = ["sent", "sent_again", "came_by_forward", "came_by_redrive", "came_by_mo
 # The actions of SQS by the calls of rows.
 ACTIONS = {"send": "SendMessage", "receive": "ReceiveMessage", "delete": "DeleteMessage",
            "change": "ChangeMessageVisibility", "start": "StartMessageMoveTask", "cancel": "CancelMessageMoveTask"}
+# Figures by their names, None where there is no number.
+Told = Iterator[tuple[str, Optional[int]]]
 # How long a window of time is, in milliseconds.
 WINDOW = 300_000
 # More messages than these that are there and not in flight are a backlog, unless another number is given.
@@ -135,8 +137,7 @@ def peak(name: str, numbers: Iterable[int], rows: Sequence[Fields], stretch: Str
     yield f"{name}_greatest_at_ms", greatest[1]
 
 
-def backlogs(waiting: Iterable[int], most: int, rows: Iterable[Fields], stretch: Stretch
-             ) -> Iterator[tuple[str, Optional[int]]]:
+def backlogs(waiting: Iterable[int], most: int, rows: Iterable[Fields], stretch: Stretch) -> Told:
     """The last end of a backlog in a stretch, unless there is one in the end, and since when there is that one."""
     since: Optional[int] = None
     gone: Optional[int] = None
@@ -149,7 +150,7 @@ def backlogs(waiting: Iterable[int], most: int, rows: Iterable[Fields], stretch:
     yield "backlog_since_ms", since
 
 
-def left(rows: Sequence[Fields], quota: int, most: int, stretch: Stretch) -> Iterator[tuple[str, Optional[int]]]:
+def left(rows: Sequence[Fields], quota: int, most: int, stretch: Stretch) -> Told:
     """What is left of a queue's messages, and how long the quota was reached."""
     there, flying = [*depths(rows)], [*flights(rows)]
     ends = [int(row.at) for row in rows[1:]] + [stretch.end]
@@ -182,7 +183,7 @@ def oldest(rows: Iterable[Fields], stretch: Stretch) -> Iterator[tuple[str, int]
     yield "oldest_age_greatest_at_ms", at
 
 
-def services(rows: Sequence[Fields], stretch: Stretch) -> Iterator[tuple[str, Optional[int]]]:
+def services(rows: Sequence[Fields], stretch: Stretch) -> Told:
     """The services of an actor that ended, its receives that gave messages, and how long it was busy."""
     inside = [row for row in rows if stretch.has(row)]
     whole, time = stretch.end - stretch.first, busy(rows, stretch)
@@ -235,7 +236,7 @@ def rank(percent: int, found: Iterable[int]) -> Optional[int]:
     return ascending[-(-percent * len(ascending) // 100) - 1] if ascending else None
 
 
-def ages(name: str, rows: Sequence[Fields], first: int, length: int) -> Iterator[tuple[str, Optional[int]]]:
+def ages(name: str, rows: Sequence[Fields], first: int, length: int) -> Told:
     """The ages of rows that delete, and the worst window of so many milliseconds from a first moment on."""
     found = [int(row.detail) for row in rows]
     yield f"{name}_sum_ms", sum(found)
@@ -248,24 +249,13 @@ def ages(name: str, rows: Sequence[Fields], first: int, length: int) -> Iterator
     yield f"{name}_window_p95_at_ms", at
 
 
-def ages_apart(rows: Sequence[Fields], queues: Container[str], stretch: Stretch, length: int
-               ) -> Iterator[tuple[str, Optional[int]]]:
-    """The ages of all messages that a stretch deleted, of those that came by no move, and of the others."""
-    moved = [(is_moved, row) for is_moved, row in zip(of_moved(rows, queues), rows)
-             if stretch.has(row) and row.said() == "delete deleted"]
-    yield from ages("age", [row for _, row in moved], stretch.first, length)
-    yield from ages("new_age", [row for is_moved, row in moved if not is_moved], stretch.first, length)
-    yield from ages("moved_age", [row for is_moved, row in moved if is_moved], stretch.first, length)
-
-
 def bound(percent: int, found: Sequence[int], left: int) -> Optional[int]:
     """The rank if so many more ages are greater than all others; None if one of those is it."""
     place = -(-percent * (len(found) + left) // 100)
     return sorted(found)[place - 1] if 0 < place <= len(found) else None
 
 
-def bounds(name: str, rows: Sequence[Fields], left: Sequence[int], stretch: Stretch, length: int
-           ) -> Iterator[tuple[str, Optional[int]]]:
+def bounds(name: str, rows: Sequence[Fields], left: Sequence[int], stretch: Stretch, length: int) -> Told:
     """The least and the greatest that each rank of the ages of rows that delete can be, and the worst window, where
     messages that are left have these ages at the last moment: as if each was deleted then, and as if none ever was."""
     found = [int(row.detail) for row in rows]
@@ -295,18 +285,21 @@ def there(rows: Iterable[Fields], stretch: Stretch) -> dict[str, int]:
     return {message: max(0, stretch.end - 1 - at) for message, at in came.items()}
 
 
-def bounds_apart(rows: Sequence[Fields], queues: Container[str], stretch: Stretch, length: int
-                 ) -> Iterator[tuple[str, Optional[int]]]:
-    """The bounds of the ages of all messages, of those that came by no move, and of the others."""
+def ages_apart(rows: Sequence[Fields], queues: Container[str], stretch: Stretch, length: int) -> Told:
+    """The ages, and then their bounds, of all messages that a stretch deleted, of those that came by no move, and of
+    the others."""
     moves = [*of_moved(rows, queues)]
     deleted = [(is_moved, row) for is_moved, row in zip(moves, rows)
                if stretch.has(row) and row.said() == "delete deleted"]
     moved = {row.message for is_moved, row in zip(moves, rows) if is_moved}
     left = there(rows, stretch)
-    yield from bounds("age", [row for _, row in deleted], [*left.values()], stretch, length)
-    for name, wanted in ("new_age", False), ("moved_age", True):
-        yield from bounds(name, [row for is_moved, row in deleted if is_moved == wanted],
-                          [age for message, age in left.items() if (message in moved) == wanted], stretch, length)
+    found = {name: ([row for is_moved, row in deleted if is_moved in of],
+                    [age for message, age in left.items() if (message in moved) in of])
+             for name, of in (("age", (False, True)), ("new_age", (False,)), ("moved_age", (True,)))}
+    for name, (gone, _) in found.items():
+        yield from ages(name, gone, stretch.first, length)
+    for name, (gone, still_there) in found.items():
+        yield from bounds(name, gone, still_there, stretch, length)
 
 
 def figures_text(scenario: "Scenario", made: Iterable["Row"], first: int, end: int, most: int = BACKLOG,
@@ -323,7 +316,7 @@ def figures_text(scenario: "Scenario", made: Iterable["Row"], first: int, end: i
         if name in queues:
             figures += [*peak("depth", depths(own), own, stretch), *peak("in_flight", flights(own), own, stretch),
                         *oldest(own, stretch), *left(own, queues[name], most, stretch), *tries(own, stretch),
-                        *ages_apart(own, queues, stretch, length), *bounds_apart(own, queues, stretch, length)]
+                        *ages_apart(own, queues, stretch, length)]
         else:
             figures += services(own, stretch)
         lines += [["figure", name, figure, "" if value is None else value] for figure, value in figures]

@@ -3,7 +3,7 @@ import hashlib
 from dataclasses import dataclass
 from enum import Enum
 
-from faults import Refused
+from faults import Refused, grant
 from settings import QueueSettings
 from words import Draws
 
@@ -135,25 +135,19 @@ class Queue:
         self.messages[number] = message
         return message
 
-    def send(self, now: int, body: str, group: str | None, id: str | None,
-             delay_s: int | None) -> tuple[str, int]:
+    def send(self, now: int, body: str, group: str | None, id: str | None, delay_s: int | None) -> tuple[str, int]:
         """The answer to a send, new or repeat, with the number of the message."""
         if self.settings.is_fifo:
             return self.send_fifo(now, body, group, id, delay_s)
-        if delay_s is not None and delay_s > LONGEST_DELAY_S:
-            raise Refused(BAD_DELAY)
+        grant(delay_s is None or delay_s <= LONGEST_DELAY_S, BAD_DELAY)
         delay = self.settings.delay if delay_s is None else 1000 * delay_s
         return "new", self.accept(now, body, None, delay).number
 
-    def send_fifo(self, now: int, body: str, group: str | None, id: str | None,
-                  delay_s: int | None) -> tuple[str, int]:
-        if delay_s:
-            raise Refused(BAD_DELAY)
-        if group is None:
-            raise Refused(NO_GROUP)
+    def send_fifo(self, now: int, body: str, group: str | None, id: str | None, delay_s: int | None) -> tuple[str, int]:
+        grant(not delay_s, BAD_DELAY)
+        grant(group is not None, NO_GROUP)
         if id is None:
-            if not self.settings.content_dedup:
-                raise Refused(NO_DEDUPLICATION)
+            grant(self.settings.content_dedup, NO_DEDUPLICATION)
             id = hashlib.sha256(body.encode("utf-8")).hexdigest()
         scope = (group if self.settings.is_scoped_by_group else None, id)
         end, number = self.entries.get(scope, (now, 0))
@@ -181,8 +175,7 @@ class Queue:
             raise Refused(NO_RECEIPT)
         _, number, count = parts
         message = self.messages.get(number)
-        if message and count > message.receives:
-            raise Refused(NO_RECEIPT)
+        grant(message is None or count <= message.receives, NO_RECEIPT)
         return number, count, message
 
     def delete(self, now: int, receipt: str) -> tuple[str, int, int | None]:
@@ -191,8 +184,7 @@ class Queue:
         if message is None:
             return "gone", number, None
         is_newest = count == message.receives
-        if self.settings.is_fifo and not (is_newest and message.place is Place.INFLIGHT):
-            raise Refused(NO_RECEIPT)
+        grant(not self.settings.is_fifo or is_newest and message.place is Place.INFLIGHT, NO_RECEIPT)
         if not is_newest:
             return "kept", number, None
         del self.messages[number]
@@ -200,13 +192,11 @@ class Queue:
 
     def change(self, now: int, receipt: str, timeout_s: int) -> Message:
         """Changes the visibility of a message in flight. With a timeout of 0 the caller gives it back."""
-        if timeout_s > LONGEST_TIMEOUT_S:
-            raise Refused(BAD_TIMEOUT)
+        grant(timeout_s <= LONGEST_TIMEOUT_S, BAD_TIMEOUT)
         _, count, message = self.found(receipt)
         if message is None or message.place is not Place.INFLIGHT or count < message.receives:
             raise Refused(NOT_INFLIGHT)
-        if now + 1000 * timeout_s > message.received + LONGEST_FLIGHT:
-            raise Refused(BAD_TIMEOUT)
+        grant(now + 1000 * timeout_s <= message.received + LONGEST_FLIGHT, BAD_TIMEOUT)
         message.due = now + 1000 * timeout_s
         return message
 

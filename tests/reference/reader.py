@@ -4,7 +4,7 @@ from collections.abc import Mapping
 from dataclasses import replace
 from typing import Any
 
-from faults import Fault
+from faults import Fault, must
 from scripts import ScriptFault, calls_of
 from settings import (ActorSettings, Bounds, ByQuantiles, Call, ConsumerSettings, Forwarding, Latency, Outage, PerCopy,
                       Policy, ProducerSettings, QueueSettings, Role, ScalerSettings, Scaling, Scenario, ScriptSettings,
@@ -76,40 +76,32 @@ class Reader:
 
     def read_lists(self) -> None:
         self.queue_items = self.top.required("queue", tables)
-        if not self.queue_items:
-            raise Fault(14, "queue")
-        if len(self.queue_items) > MOST_QUEUES:
-            raise Fault(19, "queue")
+        must(self.queue_items, 14, "queue")
+        must(len(self.queue_items) <= MOST_QUEUES, 19, "queue")
         self.actor_items: list[Any] = self.top.optional("actor", tables, [])
-        if len(self.actor_items) > MOST_AGENTS:
-            raise Fault(19, "actor")
+        must(len(self.actor_items) <= MOST_AGENTS, 19, "actor")
         self.task_items: list[Any] = self.top.optional("task", tables, [])
-        if len(self.actor_items) + len(self.task_items) > MOST_AGENTS:
-            raise Fault(19, "task")
+        must(len(self.actor_items) + len(self.task_items) <= MOST_AGENTS, 19, "task")
 
     # What several tables have.
     def name(self, table: Table, pattern: re.Pattern[str]) -> str:
         """A name that is well-formed and that nothing before it has."""
         name = table.required("name", text)
-        if not pattern.fullmatch(name):
-            raise Fault(15, table.place("name"))
-        if name in self.names:
-            raise Fault(16, table.place("name"))
+        must(pattern.fullmatch(name), 15, table.place("name"))
+        must(name not in self.names, 16, table.place("name"))
         self.names.add(name)
         return name
 
     def number_of(self, name: str, place: str) -> int:
-        for number, queue in enumerate(self.queues):
-            if queue.name == name:
-                return number
-        raise Fault(17, place)
+        names = [queue.name for queue in self.queues]
+        must(name in names, 17, place)
+        return names.index(name)
 
     def queue_named(self, value: Any, place: str) -> int:
         return self.number_of(text(value, place), place)
 
     def check_kinds(self, number: int, home: int, place: str) -> None:
-        if self.queues[number].is_fifo != self.queues[home].is_fifo:
-            raise Fault(18, place)
+        must(self.queues[number].is_fifo == self.queues[home].is_fifo, 18, place)
 
     def latency_keys(self) -> list[str]:
         return ["latency_ms"] if self.version == 1 else ["latency_min_ms", "latency_max_ms"]
@@ -160,8 +152,7 @@ class Reader:
             if queue.policy:
                 place = f"queue[{number}].dead_letter"
                 queue.policy.queue = self.number_of(queue.policy.name, place)
-                if queue.policy.queue == number:
-                    raise Fault(17, place)
+                must(queue.policy.queue != number, 17, place)
                 self.check_kinds(queue.policy.queue, number, place)
 
     # Actors.
@@ -190,10 +181,8 @@ class Reader:
         return ScriptSettings(self.calls(source, home, table.place(key)))
 
     def script_file(self, name: str, place: str) -> bytes:
-        if not SCRIPT_NAME.fullmatch(name):
-            raise Fault(14, place)
-        if name not in self.scripts:
-            raise Fault(20, place)
+        must(SCRIPT_NAME.fullmatch(name), 14, place)
+        must(name in self.scripts, 20, place)
         return self.scripts[name]
 
     def calls(self, source: bytes, home: int, place: str) -> list[Call]:
@@ -216,8 +205,7 @@ class Reader:
         start = table.optional("start_ms", integer(0, MOST_TIME), 0)
         gap = self.time(table, "gap")
         settings = ProducerSettings(count, start, gap, table.required("body", text))
-        if not settings.body_of(0) or len(settings.body_of(count - 1).encode("utf-8")) > 1024:
-            raise Fault(14, table.place("body"))
+        must(settings.body_of(0) and len(settings.body_of(count - 1).encode("utf-8")) <= 1024, 14, table.place("body"))
         if not is_fifo:
             settings.delay_s = table.maybe("delay_s", integer(0, 900))
         elif groups_key == "groups":
@@ -290,26 +278,21 @@ class Reader:
 
     def judge_copies(self, place: str, name: str, copies: int) -> None:
         names = copy_names(name, copies)
-        if any(len(copy) > LONGEST_NAME for copy in names):
-            raise Fault(15, place)
-        if not self.names.isdisjoint(names):
-            raise Fault(16, place)
+        must(all(len(copy) <= LONGEST_NAME for copy in names), 15, place)
+        must(self.names.isdisjoint(names), 16, place)
         self.names.update(names)
         self.more_copies += max(0, copies - 1)
-        if len(self.actor_items) + len(self.task_items) + self.more_copies > MOST_AGENTS:
-            raise Fault(19, place)
+        must(len(self.actor_items) + len(self.task_items) + self.more_copies <= MOST_AGENTS, 19, place)
 
     # Move tasks.
     def task(self, table: Table) -> TaskSettings:
         name = self.name(table, AGENT_NAME)
         home = table.required("queue", self.queue_named)
-        if all(queue.policy is None or queue.policy.queue != home for queue in self.queues):
-            raise Fault(17, table.place("queue"))
+        must(home in [queue.policy.queue for queue in self.queues if queue.policy], 17, table.place("queue"))
         table.only(["name", "queue", "to", "per_second", *self.latency_keys()])
         to = table.maybe("to", self.queue_named)
         if to is not None:
-            if to == home:
-                raise Fault(17, table.place("to"))
+            must(to != home, 17, table.place("to"))
             self.check_kinds(to, home, table.place("to"))
         per_second = table.optional("per_second", integer(1, 500), 500)
         return TaskSettings(name, home, to, per_second, self.latency(table))
@@ -317,8 +300,7 @@ class Reader:
 
 def table_of(key: str, number: int, item: Any) -> Table:
     place = f"{key}[{number}]"
-    if not isinstance(item, dict):
-        raise Fault(13, place)
+    must(isinstance(item, dict), 13, place)
     return Table(item, f"{place}.")
 
 

@@ -1,11 +1,12 @@
 """A site: a queue with the actors and tasks whose home it is, and the world of all sites."""
 import math
 from collections.abc import Iterator
+from contextlib import contextmanager
 from dataclasses import dataclass, replace
 from typing import NamedTuple
 
 from actors import Actor, Scaler, actor_of
-from faults import Refused
+from faults import Refused, grant
 from log import md5
 from queues import BAD_TIMEOUT, LONGEST_TIMEOUT_S, OVER_LIMIT, Load, Message, Place, Queue, origin_text
 from settings import Latency, Scenario, TaskSettings
@@ -197,6 +198,14 @@ class Site:
         return copies
 
     # Calls of actors.
+    @contextmanager
+    def answered(self, agent: int, call: str, receipt: str = "", detail: str = "") -> Iterator[None]:
+        """Ends a call in here that is refused, and makes a row of that."""
+        try:
+            yield
+        except Refused as refused:
+            self.row(agent, call, refused.name, "", receipt, detail)
+
     def visibility_s(self) -> int:
         return self.queue.settings.visibility_s
 
@@ -209,11 +218,8 @@ class Site:
         return scaler
 
     def send(self, agent: int, body: str, group: str | None, id: str | None, delay_s: int | None) -> None:
-        try:
+        with self.answered(agent, "send"):
             answer, number = self.queue.send(self.now, body, group, id, delay_s)
-        except Refused as refused:
-            self.row(agent, "send", refused.name)
-        else:
             self.row(agent, "send", answer, self.queue.id(number), "", md5(body))
 
     def receive(self, actor: Actor, most: int, wait_s: int, timeout_s: int | None) -> list[Message] | None:
@@ -236,53 +242,37 @@ class Site:
 
     def hosts_asked(self, wait_s: int, timeout_s: int | None) -> set[int] | None:
         """The hosts that a receive asks, or None for all. A short poll of a standard queue may be over its limit."""
-        if timeout_s is not None and timeout_s > LONGEST_TIMEOUT_S:
-            raise Refused(BAD_TIMEOUT)
+        grant(timeout_s is None or timeout_s <= LONGEST_TIMEOUT_S, BAD_TIMEOUT)
         if wait_s > 0 or self.queue.settings.is_fifo:
             return None
-        if self.queue.room() <= 0:
-            raise Refused(OVER_LIMIT)
+        grant(self.queue.room() > 0, OVER_LIMIT)
         return self.queue.sampled_hosts()
 
     def delete(self, agent: int, receipt: str) -> None:
-        try:
+        with self.answered(agent, "delete", receipt):
             answer, number, age = self.queue.delete(self.now, receipt)
-        except Refused as refused:
-            self.row(agent, "delete", refused.name, "", receipt)
-        else:
             self.row(agent, "delete", answer, self.queue.id(number), receipt, "" if age is None else age)
 
     def change(self, agent: int, receipt: str, timeout_s: int) -> None:
-        try:
+        with self.answered(agent, "change", receipt):
             message = self.queue.change(self.now, receipt, timeout_s)
-        except Refused as refused:
-            self.row(agent, "change", refused.name, "", receipt)
-            return
-        self.row(agent, "change", "ok", self.queue.id(message.number), receipt, timeout_s)
-        if timeout_s == 0:
-            self.come_back(message)
+            self.row(agent, "change", "ok", self.queue.id(message.number), receipt, timeout_s)
+            if timeout_s == 0:
+                self.come_back(message)
 
     # Move tasks.
     def start_or_cancel(self, agent: int, call: str, name: str) -> None:
         task = next(task for task in self.tasks.values() if task.settings.name == name)
-        try:
-            if call == "start":
-                self.start(task)
-            else:
-                self.cancel(task)
-        except Refused as refused:
-            self.row(agent, call, refused.name, "", "", name)
-        else:
+        with self.answered(agent, call, "", name):
+            (self.start if call == "start" else self.cancel)(task)
             self.row(agent, call, "ok", "", "", name)
 
     def start(self, task: Task) -> None:
-        if any(other.status == "Running" for other in self.tasks.values()):
-            raise Refused(TASK_RUNNING)
+        grant(all(other.status != "Running" for other in self.tasks.values()), TASK_RUNNING)
         task.status, task.moved, task.next_step = "Running", 0, self.now + SECOND
 
     def cancel(self, task: Task) -> None:
-        if task.status != "Running":
-            raise Refused(NO_TASK)
+        grant(task.status == "Running", NO_TASK)
         task.status = "Cancelled"
 
     def step(self, task: Task) -> None:

@@ -4,7 +4,7 @@ import tomllib
 from collections.abc import Callable, Collection, Iterator
 from typing import Any, TypeVar
 
-from faults import Fault
+from faults import Fault, must
 from scripts import MARK, MOST_BYTES, is_visible
 
 X = TypeVar("X")
@@ -58,8 +58,7 @@ class Table:
             raise Fault(11, self.place(key))
 
     def required(self, key: str, type_of: Type[X]) -> X:
-        if key not in self.values:
-            raise Fault(12, self.place(key))
+        must(key in self.values, 12, self.place(key))
         return type_of(self.values[key], self.place(key))
 
     def optional(self, key: str, type_of: Type[X], default: X) -> X:
@@ -69,71 +68,51 @@ class Table:
         return type_of(self.values[key], self.place(key)) if key in self.values else None
 
 
-def typed(value: Any, of: type, place: str) -> Any:
+def typed(of: type[X]) -> Type[X]:
     """A value that is of this type and of none below it, as true is no integer."""
-    if type(value) is not of:
-        raise Fault(13, place)
-    return value
-
-
-def text(value: Any, place: str) -> str:
-    found: str = typed(value, str, place)
-    return found
-
-
-def boolean(value: Any, place: str) -> bool:
-    found: bool = typed(value, bool, place)
-    return found
-
-
-def tables(value: Any, place: str) -> list[Any]:
-    found: list[Any] = typed(value, list, place)
-    return found
-
-
-def integer(low: int, high: int) -> Type[int]:
-    def read(value: Any, place: str) -> int:
-        number: int = typed(value, int, place)
-        if not low <= number <= high:
-            raise Fault(14, place)
-        return number
-    return read
-
-
-def one_of(*words: str) -> Type[str]:
-    def read(value: Any, place: str) -> str:
-        word = text(value, place)
-        if word not in words:
-            raise Fault(14, place)
-        return word
-    return read
-
-
-def sized_text(low: int, high: int) -> Type[str]:
-    """A text of so many bytes."""
-    def read(value: Any, place: str) -> str:
-        found = text(value, place)
-        if not low <= len(found.encode("utf-8")) <= high:
-            raise Fault(14, place)
+    def read(value: Any, place: str) -> X:
+        must(type(value) is of, 13, place)
+        found: X = value
         return found
     return read
 
 
+text, boolean, whole, tables = typed(str), typed(bool), typed(int), typed(list)
+
+
+def such(type_of: Type[X], is_in_range: Callable[[X], bool]) -> Type[X]:
+    """A value of a type that is in its range."""
+    def read(value: Any, place: str) -> X:
+        found = type_of(value, place)
+        must(is_in_range(found), 14, place)
+        return found
+    return read
+
+
+def integer(low: int, high: int) -> Type[int]:
+    return such(whole, lambda number: low <= number <= high)
+
+
+def one_of(*words: str) -> Type[str]:
+    return such(text, lambda word: word in words)
+
+
+def sized_text(low: int, high: int) -> Type[str]:
+    """A text of so many bytes."""
+    return such(text, lambda found: low <= len(found.encode("utf-8")) <= high)
+
+
 def items_in(value: Any, place: str, least: int, most: int) -> Iterator[tuple[Any, str]]:
     """The items of a list with so many, each with its place, after the faults of the list."""
-    items: list[Any] = typed(value, list, place)
-    if len(items) < least:
-        raise Fault(14, place)
-    if len(items) > most:
-        raise Fault(19, place)
+    items = tables(value, place)
+    must(len(items) >= least, 14, place)
+    must(len(items) <= most, 19, place)
     return ((item, f"{place}[{number}]") for number, item in enumerate(items))
 
 
 def pair_in(value: Any, place: str) -> tuple[Any, Any]:
-    pair: list[Any] = typed(value, list, place)
-    if len(pair) != 2:
-        raise Fault(14, place)
-    return pair[0], pair[1]
+    first, second = such(tables, lambda pair: len(pair) == 2)(value, place)
+    return first, second
 
 
 def quantiles(value: Any, place: str) -> list[tuple[int, int]]:
@@ -167,8 +146,7 @@ def one_or_more(type_of: Type[X], most: int) -> Type[list[X]]:
 def one_or_each(type_of: Type[X], count: int) -> Type[list[X]]:
     """A value for all of so many, or a list with one for each."""
     def read(value: Any, place: str) -> list[X]:
-        if len(value) != count:
-            raise Fault(14, place)
+        must(len(value) == count, 14, place)
         return list_of(type_of, count, count)(value, place)
     return one_or(read, type_of, count)
 
@@ -176,9 +154,7 @@ def one_or_each(type_of: Type[X], count: int) -> Type[list[X]]:
 def weighted_group(value: Any, place: str) -> tuple[str, int]:
     """A pair [group, weight]."""
     first, second = pair_in(value, place)
-    group = text(first, place)
-    if not is_visible(group, 128):
-        raise Fault(14, place)
+    group = such(text, lambda found: is_visible(found, 128))(first, place)
     return group, integer(1, 1_000_000)(second, place)
 
 

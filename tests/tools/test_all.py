@@ -51,18 +51,15 @@ class Small(ToolCase):
 
     def setUp(self):
         super().setUp()
-        for folder in ("tests/tools", "tests/wrong-bodies", "tools/rehearse_tools", "bin", "tmp"):
+        for folder in ("tests/tools", "bin", "tmp"):
             os.makedirs(self.path(folder))
-        for name in ("all", "all.py"):
-            shutil.copy(os.path.join(ROOT, "tests", name), self.path("tests"))
-        for name in ("crate_list.py", "rehearse_tools/__init__.py", "rehearse_tools/console.py",
-                     "rehearse_tools/programs.py", "rehearse_tools/starting.py"):
-            shutil.copy(os.path.join(ROOT, "tools", name), self.path(f"tools/{name}"))
+        self.copy("tests/all", "tests/all.py", "tools/crate_list.py", *(
+            f"tools/rehearse_tools/{name}.py" for name in ("__init__", "console", "programs", "starting")))
         self.write("crates.txt", "low:\nsqs_late_workers: low\n")
         self.write("tests/wrong-bodies/test_run.py", UNITTEST)
-        self.write_script("tools/setup", SETUP)
-        self.write_script("tools/layers", "#!/bin/sh\necho 3 crates\n")
-        self.write_script("sqs_rehearse", WRAPPER)
+        self.script("tools/setup", SETUP)
+        self.script("tools/layers", "#!/bin/sh\necho 3 crates\n")
+        self.script("sqs_rehearse", WRAPPER)
         self.program = shutil.copy(shutil.which("true"), self.path("bin/program"))
         os.symlink(sys.executable, self.path("bin/python3"))
         self.environment = {**os.environ, "TMPDIR": self.path("tmp"), "INSTALLED": self.path("installed"),
@@ -70,12 +67,8 @@ class Small(ToolCase):
                             "PATH": f"{self.path('bin')}:{os.environ['PATH']}"}
         self.environment.pop("SQS_REHEARSE", None)
 
-    def write_script(self, name, text):
-        self.script(name, text)
-        return self.path(name)
-
     def part(self, name, text):
-        self.write_script(f"tests/{name}", "#!/bin/bash\n" + text)
+        self.script(f"tests/{name}", "#!/bin/bash\n" + text)
 
     def command(self, *words):
         return [self.path("tests/all"), *words]
@@ -99,7 +92,7 @@ class Small(ToolCase):
 class Sums(Small):
     def test_each_part_has_a_line(self):
         """A part that says nothing is one; the unittest has one that passes and one that is left out."""
-        self.write_script("bin/dpkg-query", "#!/bin/sh\necho installed\n")    # so that no engine of sweeps is installed
+        self.script("bin/dpkg-query", "#!/bin/sh\necho installed\n")    # so that no engine of sweeps is installed
         self.part("run", "echo done; echo '7 passed, 0 failed'")
         self.write("tests/tools/test_some.py", UNITTEST)
         self.assertEqual(self.told(), (0, {"run": "7 passed, 0 failed", "layers": "1 passed, 0 failed",
@@ -292,11 +285,11 @@ class Wants(Small):
         self.assertFalse(os.path.exists(self.path("installed")))
 
     def test_what_is_missing_is_named_where_it_may_not_be_installed(self):
-        self.write_script("bin/id", "#!/bin/sh\necho 1000\n")
-        self.write_script("bin/sudo", "#!/bin/sh\nexit 1\n")
+        self.script("bin/id", "#!/bin/sh\necho 1000\n")
+        self.script("bin/sudo", "#!/bin/sh\nexit 1\n")
         self.assertEqual(self.run_all("--install", "--only", "layers", MISSING="gcc git"), (
             2, [], "all: packages are missing: as root, apt-get install -y --no-install-recommends gcc git\n"))
-        self.write_script("bin/sudo", "#!/bin/sh\n")
+        self.script("bin/sudo", "#!/bin/sh\n")
         self.assertEqual(self.run_all("--only", "layers", "--install", MISSING="gcc git")[0], 0)
 
     def test_python_is_installed_too(self):
@@ -306,7 +299,7 @@ class Wants(Small):
         words = dict(PATH=self.path("bin"), MISSING="python3")
         self.assertEqual(self.run_all("--help", **words), (2, [], "all: python3 is not on the PATH\n"))
         links = f"{shutil.which('ln')} -s {sys.executable} {self.path('bin/python3')}"
-        self.write_script("tools/setup", f"#!/bin/sh\nif [ $# = 0 ]; then {links}; else echo python3; exit 1; fi\n")
+        self.script("tools/setup", f"#!/bin/sh\nif [ $# = 0 ]; then {links}; else echo python3; exit 1; fi\n")
         status, out, _ = self.run_all("--install", "--only", "layers", **words)
         self.assertEqual((status, out[0], out[-1]), (0, "tools/setup installs python3", "1 passed, 0 failed"))
 
@@ -328,7 +321,7 @@ class Wants(Small):
         self.assertEqual(out[3:], ["3 passed, 0 failed, 2 skipped"])
         for folder in ("crates/low/src", "crates/high/src", "crates/sqs_late_workers/out"):
             os.makedirs(self.path(folder))
-        late = self.write_script("crates/sqs_late_workers/out/sqs_late_workers", "#!/bin/sh\n")
+        late = self.script("crates/sqs_late_workers/out/sqs_late_workers", "#!/bin/sh\n")
         for source, seconds, last in (("low", -9, "2 passed, 0 failed"), ("high", 9, "2 passed, 0 failed"),
                                       ("low", 9, "3 passed, 0 failed, 2 skipped")):
             path = self.write(f"crates/{source}/src/lib.rt", "")

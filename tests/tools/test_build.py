@@ -23,16 +23,13 @@ CRATES = "sim_a:\nsim_b: sim_a std\nsim_c: sim_a\nsqs_rehearse: sim_b sim_c\nsqs
 class Build(ToolCase):
     def setUp(self):
         super().setUp()
-        for name in ("tools/rehearse_tools", "kit", "tmp"):
-            os.makedirs(self.path(name))
-        for name in ("build", "crate_list.py", "rehearse_tools/__init__.py", "rehearse_tools/console.py",
-                     "side_by_side.py"):
-            shutil.copy(os.path.join(ROOT, "tools", name), self.path(f"tools/{name}"))
+        os.mkdir(self.path("tmp"))
+        self.copy(*(f"tools/{name}" for name in ("build", "crate_list.py", "side_by_side.py",
+                                                 "rehearse_tools/__init__.py", "rehearse_tools/console.py")))
         for name in ("sim_a", "sim_b", "sim_c", "sqs_rehearse"):
-            os.makedirs(self.path(f"crates/{name}/src"))
             self.write(f"crates/{name}/src/lib.rt", "")
         self.write("crates.txt", CRATES)
-        os.chmod(self.write("kit/rt", RT), 0o755)
+        self.script("kit/rt", RT)
         os.symlink(sys.executable, self.path("kit/python3"))
         self.environment = {**os.environ, "PATH": self.path("kit") + ":/usr/bin:/bin", "TMPDIR": self.path("tmp"),
                             "RT_DOES": "", "RT_CALLS": self.path("calls")}
@@ -72,13 +69,11 @@ class Build(ToolCase):
 
     def test_takes_what_is_proved_already(self):
         for name in ("sim_a", "sim_b"):
-            os.makedirs(self.path(f"crates/{name}/out/rlib"))
             self.write(f"crates/{name}/out/rlib/stamp", "")
         status, _, lines = self.build()
         self.assertEqual((status, [call[1] for call in self.calls()]), (0, ["sim_c", "sqs_rehearse"]))
         self.assertTrue(lines[0].startswith(f"{BUILDING}2 of 4 crates are left"), lines)
         self.assertTrue(lines[1].startswith("proved sim_c, crate 3 of 4, "), lines)
-        os.makedirs(self.path("crates/sim_c/out/rlib"))
         self.write("crates/sim_c/out/rlib/stamp", "")
         self.assertEqual(self.build(does="known"), (0, "", []))
         self.assertEqual([call[1] for call in self.calls()][2:], ["sqs_rehearse"])
@@ -256,8 +251,8 @@ class Locks(ToolCase):
             os.close(handle)
 
     def run_side_by_side(self, text, *words):
-        os.chmod(self.write("rt", f"#!/usr/bin/env python3\n{text}"), 0o755)
-        return ran([sys.executable, side_by_side.__file__, self.path("rt"), *words])
+        rt = self.script("rt", f"#!/usr/bin/env python3\n{text}")
+        return ran([sys.executable, side_by_side.__file__, rt, *words])
 
     def test_the_script_of_the_kit_gets_the_locks(self):
         self.write("rtlib.py", "lock = None\n")

@@ -86,7 +86,6 @@ class DaskCase(ToolCase):
 
     def setUp(self) -> None:
         super().setUp()
-        os.mkdir(self.path("scripts"))
         self.write("scripts/calls.csv", CALLS)
 
     @classmethod
@@ -177,7 +176,6 @@ class Faults(ToolCase):
     def test_scripts_outside_their_folder(self) -> None:
         """What leads out of the folder of the scripts is no name of one: it is neither read nor sent."""
         outside = self.write("calls.csv", CALLS)
-        os.mkdir(self.path("scripts"))
         self.write("scripts/own.csv", CALLS)
         for name, found in (("../calls.csv", []), (outside, []), ("own.csv", ["own.csv"])):
             sweep = Sweep(self.write("s.toml", SCENARIO.replace("calls.csv", name)),
@@ -187,7 +185,6 @@ class Faults(ToolCase):
     def test_without_its_library(self) -> None:
         """A Python that finds no Dask tells which package has it."""
         scenario = self.write("s.toml", SCENARIO)
-        os.mkdir(self.path("without"))
         self.write("without/distributed.py", "raise ImportError\n")
         ran = self.run_command("sweep", scenario, "--vary", "seed=1", "--cluster", "tcp://h:1",
                                PYTHONPATH=self.path("without"))

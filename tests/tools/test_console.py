@@ -216,7 +216,7 @@ class Writing(ToolCase):
         with mock.patch("os.replace", side_effect=OSError(28, "No space left")), self.assertRaises(Fault):
             write_text(self.path("new"), "y")
         self.assertEqual(sorted(os.listdir(self.folder)), ["new", "other"])
-        self.assertEqual([pathlib.Path(self.path(name)).read_text() for name in ("new", "other")], ["x", "kept"])
+        self.assertEqual([self.read(name) for name in ("new", "other")], [b"x", b"kept"])
 
 
 class Outputs(ToolCase):
@@ -234,7 +234,7 @@ class Outputs(ToolCase):
 
     def test_an_input_is_not_written_over(self):
         """Also by another name, a link or as a script of the scenario; nothing is changed or made."""
-        before = {name: pathlib.Path(self.path(name)).read_bytes() for name in os.listdir(self.folder)}
+        before = {name: self.read(name) for name in os.listdir(self.folder)}
         sweep = "sweep s.toml --vary seed=1 --program ./program "
         for command, read in (
                 ("metrics log --output log", "log"), ("metrics log --against measured --output measured", "measured"),
@@ -255,7 +255,7 @@ class Outputs(ToolCase):
                 self.assert_fault(
                     ran([sys.executable, os.path.join(TOOLS, name), *words], cwd=self.folder, stdin=file),
                     f"{name}: cannot write {words[-1]}: it is the file that is read as {read}, and is to stay")
-        self.assertEqual({name: pathlib.Path(self.path(name)).read_bytes() for name in os.listdir(self.folder)}, before)
+        self.assertEqual({name: self.read(name) for name in os.listdir(self.folder)}, before)
 
     def test_no_folder_is_made(self):
         for command in ("metrics log", "picture log", "from-plan plan", "from-queue queue", "arrivals times times",

@@ -62,7 +62,7 @@ class Ends(ToolCase):
         self.addCleanup(process.kill)
         return process, told
 
-    def read(self, told: int) -> bytes:
+    def said(self, told: int) -> bytes:
         """What programs say by the pipe; nothing once none of them is left."""
         poll = select.poll()
         poll.register(told, select.POLLIN)
@@ -75,10 +75,10 @@ class Ends(ToolCase):
                 for number in (SIGNALS if place < 2 else (signal.SIGHUP, signal.SIGKILL))}
         for (name, number), (process, told) in runs.items():
             with self.subTest(tool=name, signal=number.name):
-                self.assertEqual(self.read(told)[:5], b"runs\n")
+                self.assertEqual(self.said(told)[:5], b"runs\n")
                 process.send_signal(number)
                 errors = process.communicate(timeout=TIMEOUT)[1].decode()
-                while self.read(told):
+                while self.said(told):
                     pass
                 self.assertEqual(os.listdir(self.path(f"{name} {number.name}/tmp")), [])
                 if number in (signal.SIGQUIT, signal.SIGKILL):

@@ -200,7 +200,6 @@ class Explain(ToolCase):
         refusal = "refused 20 BadScript at actor[0].script:1"
         self.assertEqual(self.explained(text, refusal).splitlines()[-1], "The script of the script shop is to be in "
                          "./calls.csv, and there is no such file; --scripts names the folder.")
-        os.mkdir(self.path("in"))
         self.write("in/calls.csv", "\nat,call\n")
         self.assertEqual(self.explained(text, refusal, "--scripts", "in"),
                          f"in/calls.csv:2: {refusal}\n  at,call\nRecord 1 of the script shop: The first record has to "

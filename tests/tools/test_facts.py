@@ -3,7 +3,6 @@ import contextlib
 import io
 import os
 import re
-import shutil
 import unittest
 
 from tool import ROOT, ToolCase, module_of
@@ -27,9 +26,7 @@ class Made(ToolCase):
 
     def test_a_changed_file_is_named_and_made_anew(self):
         facts = module_of("facts")
-        os.mkdir(self.path("docs"))
-        for name in FILES:
-            shutil.copy(os.path.join(ROOT, name), self.path(name))
+        self.copy(*FILES)
         wanted = {name: read_text(self.path(name)) for name in FILES}
         for name, text in wanted.items():
             self.write(name, re.sub(r"(\| 0\.\.|\"maximum\": )43,?200\b", r"\g<1>1", text))
@@ -42,6 +39,11 @@ class Made(ToolCase):
         self.write(FILES[0], "<!-- tools/facts: nothing -->\n\n")
         with self.assertRaisesRegex(facts.Fault, "asks for a table nothing, which there is not"):
             facts.main([])
+
+
+    def test_the_places_of_facts_are_counted(self):
+        facts = "the key gather_ms", "its greatest value 300,000", "the refusal OverLimit", "the column received_again"
+        self.assertRegex(self.output("facts", "--count"), r"\A" + "".join(rf" *[1-9]\d*  {it}\n" for it in facts) + r"\Z")
 
 
 class Told(unittest.TestCase):

@@ -21,6 +21,12 @@ def configured(address, **references):
     return {"address": address, "expressions": {key: {"references": found} for key, found in references.items()}}
 
 
+def plan_of(resources=(), configurations=(), modules=(), **calls):
+    """A plan with these resources and modules, and the configurations of resources and calls of modules."""
+    return {"planned_values": {"root_module": {"resources": [*resources], "child_modules": [*modules]}},
+            "configuration": {"root_module": {"resources": [*configurations], "module_calls": calls}}}
+
+
 # The root has orders with failed; the module pay has a queue whose policy is a resource of its own and names, by a
 # variable, the output of the module dead.
 PLAN = {
@@ -109,16 +115,13 @@ class FromPlan(ToolCase):
     def test_queues_with_an_index_have_the_dead_letter_queue_of_the_same_index(self):
         values = [resource(f'aws_sqs_queue.{name}["{key}"]', name=f"{name}-{key}") for name in "qd" for key in "xy"]
         policy = configured("aws_sqs_queue.q", redrive_policy=["aws_sqs_queue.d", "each.key"])
-        plan = {"planned_values": {"root_module": {"resources": values}},
-                "configuration": {"root_module": {"resources": [policy]}}}
-        made = self.made(json.dumps(plan))
+        made = self.made(json.dumps(plan_of(values, [policy])))
         for key in "xy":
             self.assertIn(f'name = "q-{key}"\ndead_letter = "d-{key}"\n', made)
 
     def test_dead_letter_queue_that_the_plan_does_not_tell(self):
-        plan = {"planned_values": {"root_module": {"resources": [resource("aws_sqs_queue.q", name="q")]}},
-                "configuration": {"root_module": {"resources": [
-                    configured("aws_sqs_queue.q", redrive_policy=["local.policy"])]}}}
+        plan = plan_of([resource("aws_sqs_queue.q", name="q")],
+                       [configured("aws_sqs_queue.q", redrive_policy=["local.policy"])])
         self.assertIn("# DEFAULT: no dead-letter queue, as the plan does not tell which one its policy names.\n",
                       self.made(json.dumps(plan)))
 
@@ -147,9 +150,7 @@ class FromPlan(ToolCase):
                 ("aws_sns_topic_subscription", {"protocol": "sqs", "topic_arn": f"t{key}".replace('"', "")}))]
             found = [configured("aws_lambda_event_source_mapping.it", event_source_arn=["module.sqs", by]),
                      configured("aws_sns_topic_subscription.it", endpoint=["module.sqs", by])]
-            text = json.dumps({"planned_values": {"root_module": {"resources": wired, "child_modules": modules}},
-                               "configuration": {"root_module": {"resources": found, "module_calls": {"sqs": {
-                                   "module": {"resources": [], "outputs": {}}}}}}})
+            text = json.dumps(plan_of(wired, found, modules, sqs={"module": {"resources": [], "outputs": {}}}))
             out, err = self.ends(0, self.run_tool("from-plan", self.write("given", text)))
             actors = {actor["name"]: actor["queue"] for actor in toml_of(out)["actor"]}
             for key, name in zip(keys, names):
@@ -253,9 +254,8 @@ class FromPlan(ToolCase):
                          for own, name in (("one", "a"), ("two", "b"), ('each["x"]', "c"), ('each["y"]', "d"))]
         known = {"one": ["aws_sns_topic.t.arn", "aws_sns_topic.t"], "two": ["aws_sns_topic.t.arn", "aws_sns_topic.t"],
                  "each": ["aws_sns_topic.u", "each.key"]}
-        plan = {"planned_values": {"root_module": {"resources": queues + subscriptions}},
-                "configuration": {"root_module": {"resources": [
-                    configured(f"aws_sns_topic_subscription.{name}", topic_arn=found) for name, found in known.items()]}}}
+        plan = plan_of(queues + subscriptions, [configured(f"aws_sns_topic_subscription.{name}", topic_arn=found)
+                                                for name, found in known.items()])
         template = {"Resources": {
             **{name.upper(): {"Type": "AWS::SQS::Queue", "Properties": {"QueueName": name}} for name in "abc"},
             "t": {"Type": "AWS::SNS::Topic", "Properties": {"Subscription": [
@@ -298,8 +298,7 @@ class FromPlan(ToolCase):
         """Standard error names it, and the queues are made without it."""
         queues = [resource(f"aws_sqs_queue.{name}", name=name) for name in "ab"]
         policy = resource("aws_sqs_queue_redrive_policy.p", of="aws_sqs_queue_redrive_policy")
-        plan = {"planned_values": {"root_module": {"resources": [*queues, policy]}}, "configuration": {"root_module": {
-            "resources": [configured("aws_sqs_queue_redrive_policy.p", queue_url=["local.url"])]}}}
+        plan = plan_of([*queues, policy], [configured("aws_sqs_queue_redrive_policy.p", queue_url=["local.url"])])
         self.assertIn("# DEFAULT: no dead-letter queue by aws_sqs_queue_redrive_policy.p, as the plan does not tell "
                       "whose it is.\n", self.made(json.dumps(plan)))
 
@@ -309,10 +308,9 @@ class FromPlan(ToolCase):
             "outputs": {"out": {"expression": {"references": ["var.v", "var.v.x", "var.v.y"]}}},
             "resources": [configured("aws_sqs_queue.q", redrive_policy=["var.v"])]}}
         children = [{"resources": [resource(f"module.{name}.aws_sqs_queue.q", name=name)]} for name in "abc"]
-        plan = {"planned_values": {"root_module": {"child_modules": children}},
-                "configuration": {"root_module": {"module_calls": {name: call for name in "abc"}}}}
-        status, out, err = self.run_tool("from-plan", self.write("given", json.dumps(plan)))
-        self.assertEqual((status, out, err), (2, "", "from-plan: the plan has over 1,000,000 references\n"))
+        plan = json.dumps(plan_of(modules=children, **{name: call for name in "abc"}))
+        self.assert_fault(self.run_tool("from-plan", self.write("given", plan)),
+                          "from-plan: the plan has over 1,000,000 references")
 
     def test_sam_and_conditions(self):
         """By the parameter Stage the queue Extra is there, and the visibility timeout of Jobs is given."""
@@ -385,7 +383,8 @@ class FromPlan(ToolCase):
     def test_plans_with_other_values(self):
         """Some value of a stored plan or template is another one: that is a scenario or a fault, and no traceback."""
         chance, ends = random.Random(7), []
-        documents = [json.loads(text) for text in (*map(self.text_of, sorted(STORED)), json.dumps(TEMPLATE_IN_JSON))]
+        documents = [json.loads(text) for text in (*(text_at(PLANS, name) for name in sorted(STORED)),
+                                                        json.dumps(TEMPLATE_IN_JSON))]
         for _ in range(300):
             document = copy.deepcopy(chance.choice(documents))
             for _ in range(chance.choice((1, 1, 3))):
@@ -398,9 +397,6 @@ class FromPlan(ToolCase):
                     ends.append(str(fault))
             self.assertNotIn("Traceback", told.getvalue())
         self.assertGreater(ends.count(0), 150)
-
-    def text_of(self, name):
-        return text_at(PLANS, name)
 
     def test_without_its_library(self):
         """If the library is missing, the error names its package; JSON needs none."""

@@ -2,7 +2,7 @@
 import json
 import os
 
-from tool import ToolCase, needs_program, printed, text_at
+from tool import ToolCase, needs_program, printed, report_in, text_at
 from rehearse_tools.console import toml_of
 
 ARN = "arn:aws:sqs:eu-central-1:123456789012:"
@@ -88,12 +88,9 @@ class FromQueue(ToolCase):
         status, out, err = self.run_tool("from-queue", path, "--depth", "--horizon", "1000", "--output", "s.toml")
         self.assertEqual((status, out), (0, ""))
         self.assertIn("from-queue: orders: its 3 messages in flight are left out: ", err)
-        run = printed("run", "--log", os.devnull, self.path("s.toml"))
-        records = [line.split(",") for line in run.splitlines() if line.startswith("report,")]
-        report = dict(zip(records[0], next(record for record in records if record[1] == "orders")))
+        report = report_in(printed("run", "--log", os.devnull, self.path("s.toml")), "orders")
         self.assertEqual([report[key] for key in ("sends", "visible", "delayed")], ["2508", "2501", "7"])
-        with open(self.path("s.toml"), "rb") as file:
-            actors = toml_of(file.read().decode())["actor"]
+        actors = toml_of(self.read("s.toml").decode())["actor"]
         self.assertEqual([(actor["name"], actor["count"], actor.get("delay_s")) for actor in actors],
                          [("orders-depth-1", 834, 0), ("orders-depth-2", 834, 0), ("orders-depth-3", 833, 0),
                           ("orders-depth-delayed-1", 7, None)])
@@ -184,8 +181,7 @@ class FromQueue(ToolCase):
         text = json.dumps({"Attributes": ORDERS})
         for encoding in ("utf-8", "utf-8-sig", "utf-16", "utf-16-be"):
             mark = "\ufeff" if encoding == "utf-16-be" else ""
-            with open(self.path("orders.json"), "w", encoding=encoding) as file:
-                file.write(mark + text)
+            self.write("orders.json", (mark + text).encode(encoding))
             status, out, _ = self.run_tool("from-queue", "orders.json")
             self.assertEqual((status, out), (0, HEAD + ORDERS_TABLE + FAILED_TABLE), encoding)
 

@@ -16,11 +16,10 @@ import math
 import os
 import random
 import statistics
-import subprocess
 import unittest
 from collections.abc import Sequence
 
-from tool import PROGRAM, needs_program
+from tool import needs_program, printed, report_in
 from scenario_texts import consumer, producer, queue_of, scenario_of
 
 SEEDS = range(1, 11)
@@ -113,11 +112,8 @@ def ours(seed: int, service: tuple[int, int]) -> tuple[int, int]:
                        producer("p", "q", COUNT, GAP, "{n}."),
                        consumer("c", "q", service, copies=FUNCTIONS, batch=BATCH, batch_service="once", wait_s=20,
                                 batch_fails="whole", fails_on=POISON, idle_ms=1), version=3, seed=seed)
-    ran = subprocess.run([str(PROGRAM), "run", "--preview", "--log", os.devnull], input=text.encode(), check=True,
-                         capture_output=True)
-    head, row = (line.split(",") for line in ran.stdout.decode().split("\n")
-                 if line.startswith(("report,queue", "report,q,")))
-    found = {column: int(row[head.index(column)]) for column in ("deletes", "redrives", "age_p95")}
+    report = report_in(printed("run", "--preview", "--log", os.devnull, text=text))
+    found = {column: int(report[column]) for column in ("deletes", "redrives", "age_p95")}
     assert found["deletes"] + found["redrives"] == COUNT, "messages are left"
     return found["redrives"], found["age_p95"]
 
@@ -136,8 +132,7 @@ class Invocations(unittest.TestCase):
     def are_alike(self, model: type[Model], service: tuple[int, int]) -> list[bool]:
         """Of dead letters and of ages, whether the mean of each side is within the numbers of the other."""
         found = zip(*(model(seed, service).run() for seed in SEEDS))
-        return [is_within(numbers, own) and is_within(own, numbers)
-                for numbers, own in zip(found, self.ours[service])]
+        return [is_within(numbers, own) and is_within(own, numbers) for numbers, own in zip(found, self.ours[service])]
 
     def test_dead_letters_and_ages(self) -> None:
         for service in SERVICES:

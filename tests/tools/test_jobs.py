@@ -198,7 +198,6 @@ class Jobs(ToolCase):
     def test_results_of_another_version_of_the_program(self) -> None:
         rows = {1: [["1", "", "q", "7"]]}
         head = Head("0" * 64, "0" * 64, "0" * 64, (("vary", "seed=1"),), 1, 1)
-        os.mkdir(self.results)
         self.write(f"results/1-of-1-{head.mark}.csv", result_text(head, ["seed", "failed", "queue", "sends"], rows))
         self.assert_fault(self.sweep("--collect", "results", "--columns", "age_p95"),
                           "sweep: the results in results are of another version of the program, whose report has other "

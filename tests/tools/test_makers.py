@@ -134,7 +134,6 @@ class Bench(ToolCase):
 
 class Cases(ToolCase):
     def test_a_case_that_runs_and_one_that_is_refused(self):
-        os.mkdir(self.path("cases"))
         self.write("cases/a.toml", SCENARIO)
         self.write("cases/a.out", OUTPUT)
         self.write("f.refusals", REFUSALS)
@@ -150,7 +149,6 @@ class Cases(ToolCase):
                          "0 lemmas in out.antt\n")
 
     def test_faults(self):
-        os.mkdir(self.path("cases"))
         self.write("cases/a.toml", SCENARIO)
         for data, line in ((None, "cannot read cases/a.out: No such file or directory"),
                            (b"", "cases/a.out is not the output of cases/a.toml"),

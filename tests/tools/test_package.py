@@ -193,11 +193,10 @@ class Package(PackageCase):
     @unittest.skipUnless(os.geteuid() == 0, "dpkg runs the scripts of packages for root alone")
     def test_after_an_older_package(self):
         """In that one the folder of documents was a link to the folder of all."""
-        older = self.path("older/usr/lib/sqs_rehearse")
-        for folder in (older, self.path("older/usr/share/doc"), self.path("older/DEBIAN")):
-            os.makedirs(folder)
-        os.symlink("../../lib/sqs_rehearse", self.path("older/usr/share/doc/sqs-rehearse"))
         self.write("older/usr/lib/sqs_rehearse/README.md", "old\n")
+        os.mkdir(self.path("older/usr/share"))
+        os.mkdir(self.path("older/usr/share/doc"))
+        os.symlink("../../lib/sqs_rehearse", self.path("older/usr/share/doc/sqs-rehearse"))
         self.write("older/DEBIAN/control", "Package: sqs-rehearse\nVersion: 0.0.1\nArchitecture: all\n"
                                            "Maintainer: M <m@localhost>\nDescription: older\n")
         subprocess.run(["dpkg-deb", "--build", self.path("older"), self.path("older.deb")], check=True,
@@ -277,13 +276,11 @@ class Dist(PackageCase):
     def setUp(self):
         super().setUp()
         shutil.copytree(TOOLS, self.path("tools"), ignore=shutil.ignore_patterns("__pycache__"))
-        for name, text in (("kit/rt", RT), ("tools/sources", SOURCES)):
-            os.makedirs(os.path.dirname(self.path(name)), exist_ok=True)
-            self.script(name, text)
+        self.script("kit/rt", RT)
+        self.script("tools/sources", SOURCES)
         self.program = self.path("crates/sqs_rehearse/out/sqs_rehearse")
         os.makedirs(os.path.dirname(self.program))
         shutil.copy(ECHO, self.program)
-        os.makedirs(self.path("crates/sim_a/src"))
         self.source = self.write("crates/sim_a/src/a.rt", "")
         os.utime(self.source, (1, 1))
 
@@ -292,7 +289,7 @@ class Dist(PackageCase):
         return self.run_in(self.folder, self.path("tools/package"), "--dist", *words, PATH=path)
 
     def made(self):
-        return {name: pathlib.Path(self.path("dist"), name).read_bytes() for name in os.listdir(self.path("dist"))}
+        return {name: self.read(f"dist/{name}") for name in os.listdir(self.path("dist"))}
 
     def test_what_is_made(self):
         status, out, err = self.make()
@@ -324,7 +321,7 @@ class Dist(PackageCase):
             if made == self.make:
                 self.write("dist/playground.html", "page")
             self.assertEqual(made()[0], 0)
-            page = pathlib.Path(self.path("dist/playground.html")).read_bytes()
+            page = self.read("dist/playground.html")
             lines = self.made()["manifest"].decode().splitlines()
             self.assertEqual([line for line in lines if line.startswith("page ")],
                              [f"page {hashlib.sha256(page).hexdigest()}"])
@@ -466,7 +463,6 @@ class Helps(ToolCase):
         self.write("evil.csv", "".join(f"{at},{queue},a,send\n" for at, queue in enumerate(queues)))
         tables = "".join(f'[[queue]]\nname = "{queue}"\n' for queue in queues)
         for name in ("evil.toml", "a=b.toml", "-f.toml", "/$(touch${IFS}pwned).toml"):
-            os.makedirs(os.path.dirname(self.path(f"./{name}")), exist_ok=True)
             self.write(f"./{name}", tables)
         for name in ("evil.csv", "evil.toml", "a=b.toml", "-f.toml", "$(touch${IFS}pwned).toml"):
             for word in ("", "o", *commands):

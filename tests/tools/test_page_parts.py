@@ -316,8 +316,7 @@ class Parts(ToolCase):
                      '<link rel="canonical" href="https://example.org/a&amp;b/">', '<meta name="description" content="Change'):
             self.assertIn(line, text)
         self.assertLessEqual(os.path.getsize(page), 900_000)
-        with open(self.path("public/preview.png"), "rb") as file:
-            self.assertEqual(file.read(4), b"\x89PNG")
+        self.assertEqual(self.read("public/preview.png")[:4], b"\x89PNG")
         for more, line in (((), "--site and --address go together"), (("--address", "example.org"), "is no address of a folder")):
             self.assertIn(line, self.refusal(self.run_tool("page", *words, *more)))
 

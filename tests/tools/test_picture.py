@@ -1,11 +1,11 @@
 """Tests tools/picture: what it counts, by hand and by the stored reports, and that no two texts of it overlap."""
-import csv
 import glob
 import itertools
 import os
 import re
 import unittest
 
+from test_summary import cases
 from tool import HEADER, ROOT, ToolCase, ended, log_at, module_of, needs_program, row_of, text_at
 from rehearse_tools.console import Fault, library
 from rehearse_tools.logs import Log
@@ -146,20 +146,17 @@ class Counts(ToolCase):
     def test_stored_reports(self):
         """What is left, deleted, redriven, moved and expired is what the stored report of each case says."""
         compared = 0
-        for path in glob.glob(os.path.join(ROOT, "tests", "cases", "*", "*.out")):
-            text = text_at(path)
-            if text.startswith(HEADER + "final,") or "\nreport," not in text:
+        for path, log, _, records in cases():
+            if log == HEADER:
                 continue
             found = histories_of(path)
-            records = list(csv.reader(text[text.index("\nreport,") + 1:].splitlines()))
-            for record in records[1:]:
-                report = dict(zip(records[0][2:], record[2:]))
-                queue = found.queues.get(record[1], History(record[1]))
+            for record in records:
+                queue = found.queues.get(record["queue"], History(record["queue"]))
                 last = [int(levels(queue, place, 0, found.last)[1][-1]) for place in PLACES.values()]
                 numbers = [*last, len(queue.ages), sum(queue.ages), len(queue.redrives), queue.moves,
                            len(queue.expiries), queue.peak]
                 columns = "visible,in_flight,delayed,deletes,age_sum,redrives,moves,expiries,depth_max".split(",")
-                self.assertEqual(numbers, [int(report[column]) for column in columns], (path, record[1]))
+                self.assertEqual(numbers, [int(record[column]) for column in columns], (path, record["queue"]))
                 compared += 1
         self.assertGreater(compared, 100)
 
@@ -305,8 +302,7 @@ class Tool(ToolCase):
             for output, run in ((name, self.run_tool), (f"new/{name}", self.run_command)):
                 words = log, "--output", output, "--scenario", "s.toml", "--title", "My <queues>"
                 self.assertEqual(run("picture", *words), (0, "", ""))
-                with open(self.path(output), "rb") as file:
-                    made.append(file.read())
+                made.append(self.read(output))
             data, again = made
             self.assertTrue(data.startswith(head))
             self.assertEqual(data, again, name)
@@ -345,8 +341,7 @@ class Tool(ToolCase):
         self.write("s.toml", "seed = 5\n")
         self.run_tool("picture", self.write("log", ended(LOG)), "--output", "p.png", "--width", "1600", "--height", "1200",
                       "--scenario", "s.toml")
-        with open(self.path("p.png"), "rb") as file:
-            data = file.read(24)
+        data = self.read("p.png")
         self.assertEqual([int.from_bytes(data[at:at + 4], "big") for at in (16, 20)], [1600, 1200])
 
     def test_many_rows(self):

@@ -13,11 +13,10 @@ import math
 import os
 import random
 import statistics
-import subprocess
 import unittest
 from collections.abc import Callable, Iterator
 
-from tool import PROGRAM, needs_program
+from tool import needs_program, printed, report_in
 from scenario_texts import consumer, producer, queue_of, scenario_of
 
 SEEDS = range(1, 31)
@@ -159,11 +158,7 @@ def text_of(seed: int, gap: int, *actors: str) -> str:
 
 def dead_letters(text: str) -> int:
     """How many messages the program's report of a scenario counts as redriven from the first queue."""
-    ran = subprocess.run([str(PROGRAM), "run", "--preview", "--log", os.devnull], input=text.encode(), check=True,
-                         capture_output=True)
-    head, row = (line.split(",") for line in ran.stdout.decode().split("\n")
-                 if line.startswith(("report,queue", "report,q,")))
-    return int(row[head.index("redrives")])
+    return int(report_in(printed("run", "--preview", "--log", os.devnull, text=text))["redrives"])
 
 
 @needs_program

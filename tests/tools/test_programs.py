@@ -50,27 +50,21 @@ class WrapperCase(ToolCase):
 
     def setUp(self):
         super().setUp()
-        for name in ("tools", "kit", "tmp", "home", "dist", *(f"crates/{crate}/src" for crate in
-                                                               ("sqs_rehearse", "sim_a", "test_a"))):
-            os.makedirs(self.path(name))
-        for name in ("sqs_rehearse", "tools/VERSION", "tools/sources"):
-            shutil.copy(os.path.join(ROOT, name), self.path(name))
+        for name in ("tmp", "home", "dist"):
+            os.mkdir(self.path(name))
+        self.copy("sqs_rehearse", "tools/VERSION", "tools/sources")
         self.write("crates.txt", "sim_a:\nsqs_rehearse: sim_a\ntest_a: sim_a\n")
         for crate in ("sqs_rehearse", "sim_a", "test_a"):
             self.write(f"crates/{crate}/src/lib.rt", crate)
-        self.make_program("tools/build", BUILD)
-        self.make_program("kit/rt", "#!/bin/sh\necho kit 1\n")
+        self.script("tools/build", BUILD)
+        self.script("kit/rt", "#!/bin/sh\necho kit 1\n")
         self.environment = {name: value for name, value in os.environ.items() if not name.startswith("SQS_REHEARSE")}
         self.environment |= {"PATH": self.path("kit") + ":/usr/bin:/bin", "TMPDIR": self.path("tmp"), "FAILS": "",
                              "HOME": self.path("home"), "CALLS": self.path("calls")}
         self.environment.pop("XDG_CACHE_HOME", None)
 
-    def make_program(self, name, text):
-        os.makedirs(os.path.dirname(self.path(name)), exist_ok=True)
-        self.script(name, text)
-
     def make_built(self):
-        self.make_program("crates/sqs_rehearse/out/sqs_rehearse", PROGRAM.format("built"))
+        self.script("crates/sqs_rehearse/out/sqs_rehearse", PROGRAM.format("built"))
 
     def make_dist(self, program=PROGRAM.format("packed")):
         """Puts a program into dist/, as that of the sources that are there now."""
@@ -112,7 +106,7 @@ class Built(WrapperCase):
 
     def test_runs_the_program_that_is_named(self):
         self.make_built()
-        self.make_program("another", PROGRAM.format("another"))
+        self.script("another", PROGRAM.format("another"))
         self.assertEqual(self.run_it("run", SQS_REHEARSE=self.path("another")), (0, "another run\n", ""))
         self.assertEqual(self.run_it("run", SQS_REHEARSE=self.path("sqs_rehearse")), (0, "built run\n", ""))
         self.assert_refused(["run"], "there is no program /none, which SQS_REHEARSE names", SQS_REHEARSE="/none")
@@ -257,8 +251,8 @@ class Dist(WrapperCase):
         """A file that takes the place of the program once its checksum is taken does not run."""
         sum_of_it = self.make_dist()
         place = self.path(f"home/.cache/sqs_rehearse/{sum_of_it[:16]}/sqs_rehearse")
-        self.make_program("other", PROGRAM.format("other"))
-        self.make_program("kit/sha256sum", f'#!/bin/sh\n/usr/bin/sha256sum "$@"\n'
+        self.script("other", PROGRAM.format("other"))
+        self.script("kit/sha256sum", f'#!/bin/sh\n/usr/bin/sha256sum "$@"\n'
                                            f'if [ -e {place} ]; then cp -p {self.path("other")} {place}.new; '
                                            f'mv {place}.new {place}; fi\n')
         for _ in range(3):
@@ -268,7 +262,7 @@ class Dist(WrapperCase):
     def make_checked(self):
         """Runs the program until it is noted that all was checked, and gives how often checksums were taken by then."""
         self.make_dist()
-        self.make_program("kit/sha256sum", '#!/bin/sh\necho sum >> "$CALLS"; exec /usr/bin/sha256sum "$@"\n')
+        self.script("kit/sha256sum", '#!/bin/sh\necho sum >> "$CALLS"; exec /usr/bin/sha256sum "$@"\n')
         checked = pathlib.Path(self.path("home/.cache/sqs_rehearse/checked"))
         shutil.rmtree(checked, ignore_errors=True)
         wait_for(lambda: self.run_it("run")[:2] == (0, "packed run\n") and list(checked.glob("*.list")))
@@ -323,7 +317,7 @@ class Dist(WrapperCase):
     def test_sources_that_cannot_be_read(self):
         """The line says what is wrong, and nothing is built."""
         self.make_dist()
-        self.make_program("kit/sha256sum", '#!/bin/sh\nif [ $# = 0 ]; then exec /usr/bin/sha256sum; fi\n'
+        self.script("kit/sha256sum", '#!/bin/sh\nif [ $# = 0 ]; then exec /usr/bin/sha256sum; fi\n'
                                            'echo "sha256sum: $1: Permission denied" >&2; exit 1\n')
         self.assert_refused(["run"], "the sources cannot be read: sha256sum: crates/sim_a/src/lib.rt: Permission "
                             "denied")
@@ -384,7 +378,7 @@ class Dist(WrapperCase):
 
     def test_an_interrupted_unpacking(self):
         self.make_dist()
-        self.make_program("kit/gzip", SLOW_GZIP)
+        self.script("kit/gzip", SLOW_GZIP)
         run = subprocess.Popen([self.path("sqs_rehearse"), "run"], env=self.environment, stdin=subprocess.DEVNULL,
                                stderr=subprocess.PIPE, text=True, start_new_session=True)
         wait_for(self.calls)
@@ -414,7 +408,7 @@ class Terminals(WrapperCase):
 
     def setUp(self):
         super().setUp()
-        self.make_program("crates/sqs_rehearse/out/sqs_rehearse", HOSTILE)
+        self.script("crates/sqs_rehearse/out/sqs_rehearse", HOSTILE)
         self.write("plain.toml", 'version = 1 # caf\u00e9\n"a b" = "c\\\\d"\n')
 
     def shown(self, *words, out=True, err=True):
@@ -465,9 +459,9 @@ class ByNode(WrapperCase):
 
     def setUp(self):
         super().setUp()
-        self.make_program("kit/uname", UNAME)
+        self.script("kit/uname", UNAME)
         shutil.copytree(os.path.join(ROOT, "page"), self.path("page"))
-        shutil.copy(os.path.join(ROOT, "dist", "playground.html"), self.path("dist"))
+        self.copy("dist/playground.html")
         self.make_dist()
 
     def run_there(self, *words, stdin=b"", **more):
@@ -479,7 +473,7 @@ class ByNode(WrapperCase):
         needed = "the program of dist/ is for Linux on x86-64, and this is Darwin arm64: Node 18 or later runs the " \
                  "module of dist/playground.html in its place, and node is "
         for text, told in (("exit 127", "not on the PATH"), ("echo v16.20.1", "v16.20.1")):
-            self.make_program("kit/node", f"#!/bin/sh\n{text}\n")
+            self.script("kit/node", f"#!/bin/sh\n{text}\n")
             for words in (["run"], ["--where"]):
                 self.assertEqual(self.run_there(*words), (2, b"", f"sqs_rehearse: {needed}{told}\n"))
 
@@ -514,13 +508,12 @@ class ByNode(WrapperCase):
 
     @unittest.skipUnless(shutil.which("node"), "node is not here")
     def test_damage_and_other_sources(self):
-        sum_of = hashlib.sha256(pathlib.Path(self.path("dist/playground.html")).read_bytes()).hexdigest()
+        sum_of = hashlib.sha256(self.read("dist/playground.html")).hexdigest()
         manifest = pathlib.Path(self.path("dist/manifest"))
         scenario = pathlib.Path(ROOT, "examples", "first.toml").read_bytes()
         manifest.write_text(manifest.read_text() + f"page {sum_of}\n")
         self.assertEqual(self.run_there("check", stdin=scenario)[0], 0)
-        with open(self.path("dist/playground.html"), "a", encoding="utf-8") as file:
-            file.write("\n")
+        self.write("dist/playground.html", self.read("dist/playground.html") + b"\n")
         self.assertEqual(self.run_there("check", stdin=scenario), (2, b"", NODE_NOTE + (
             "sqs_rehearse: dist/playground.html is damaged: it is not the page that dist/manifest names\n")))
         self.write("crates/sim_a/src/lib.rt", "changed")
@@ -544,9 +537,9 @@ class ByNode(WrapperCase):
                       ["run", "--to", "18446744073709551615", "b.toml"]):
             status, out, err = ran([PROVED, *words], text=False, cwd=self.folder)
             wanted = status, out, NODE_NOTE + err.decode()
-            log = pathlib.Path(self.path("x.log")).read_bytes() if words[1].startswith("--log") else b""
+            log = self.read("x.log") if words[1].startswith("--log") else b""
             self.assertEqual(self.run_there(*words), wanted, words)
-            self.assertEqual(pathlib.Path(self.path("x.log")).read_bytes() if log else b"", log)
+            self.assertEqual(self.read("x.log") if log else b"", log)
         status, out, err = self.run_tool("sweep", self.path("a.toml"), "--vary", "seed=1", "--columns", "sends",
                                          "--program", self.path("page/node.mjs"))
         self.assertEqual((status, out), (0, "seed,failed,queue,sends\n1,,q,1\n"), err)
@@ -557,9 +550,7 @@ class Gate(WrapperCase):
 
     def setUp(self):
         super().setUp()
-        os.mkdir(self.path("tests"))
-        shutil.copy(os.path.join(ROOT, "tests", "dist"), self.path("tests"))
-        shutil.copy(os.path.join(ROOT, "tools", "VERSION"), self.path("tools"))
+        self.copy("tests/dist", "tools/VERSION")
         self.version = pathlib.Path(ROOT, "tools", "VERSION").read_text().strip()
         self.make_built()
 
@@ -583,7 +574,7 @@ class Gate(WrapperCase):
         self.assertEqual(self.compared(), (0, same))
         os.remove(self.path("kit/rt"))
         self.assertEqual(self.compared(), (0, same))
-        self.make_program("unpacked", PROGRAM.format("built"))
+        self.script("unpacked", PROGRAM.format("built"))
         self.assertEqual(self.compared("unpacked"), (0, [NO_PAGE, "3 passed, 0 failed"]))
 
     def test_another_program_of_the_same_sources(self):
@@ -593,7 +584,7 @@ class Gate(WrapperCase):
 
     def test_damage(self):
         self.make_dist()
-        pathlib.Path(self.path("dist/sqs_rehearse-x86_64-linux.gz")).write_bytes(b"")
+        self.write("dist/sqs_rehearse-x86_64-linux.gz", b"")
         status, lines = self.compared()
         self.assertEqual((status, lines[-1]), (1, "2 passed, 1 failed"))
 
@@ -601,8 +592,8 @@ class Gate(WrapperCase):
         """The page is the one that the manifest names, and the newest entry is of the program of dist/."""
         self.make_dist()
         self.write("dist/playground.html", "page")
-        with open(self.path("dist/manifest"), "a", encoding="utf-8") as file:
-            file.write(f"page {hashlib.sha256(b'page').hexdigest()}\n")
+        manifest = self.read("dist/manifest").decode()
+        self.write("dist/manifest", f"{manifest}page {hashlib.sha256(b'page').hexdigest()}\n")
         self.assertEqual(self.compared()[1][-1], "4 passed, 0 failed")
         self.write("dist/playground.html", "another")
         self.assertEqual(self.compared()[1][-1], "3 passed, 1 failed")
@@ -617,7 +608,7 @@ class Gate(WrapperCase):
     def test_behind(self):
         makes = ": tools/package --dist makes it anew"
         self.make_dist()
-        self.make_program("kit/rt", "#!/bin/sh\necho kit 2\n")
+        self.script("kit/rt", "#!/bin/sh\necho kit 2\n")
         self.assertEqual(self.compared(), (0, [NO_PAGE,
             "note: dist/ is behind, with a program that kit 1 built, where kit 2 is here" + makes,
             "2 passed, 0 failed"]))
@@ -625,7 +616,7 @@ class Gate(WrapperCase):
         self.assertEqual(self.compared(), (0, [NO_PAGE,
             "note: dist/ is behind, with the program of other sources" + makes, "2 passed, 0 failed"]))
         self.make_dist()
-        self.make_program("kit/rt", "#!/bin/sh\necho kit 1\n")
+        self.script("kit/rt", "#!/bin/sh\necho kit 1\n")
         self.write("tools/VERSION", "9.9\n")
         self.assertEqual(self.compared(), (0, [NO_PAGE,
             f"note: dist/ is behind, with version {self.version}, where tools/VERSION has another" + makes,
@@ -658,7 +649,7 @@ class Words(WrapperCase):
         self.assertEqual(self.calls(), [])
 
     def test_a_tool(self):
-        self.make_program("tools/summary", '#!/bin/sh\necho "$SQS_REHEARSE_TOOL" "$@"\n')
+        self.script("tools/summary", '#!/bin/sh\necho "$SQS_REHEARSE_TOOL" "$@"\n')
         called = self.path("sqs_rehearse")
         self.assertEqual(self.run_it("summary", "a b", "--help"), (0, f"{called} summary a b --help\n", ""))
         self.assertEqual(self.run_it("help", "summary"), (0, f"{called} summary --help\n", ""))
@@ -668,13 +659,13 @@ class Words(WrapperCase):
             os.symlink(shutil.which(name), self.path(f"kit/{name}"))
         self.assert_refused(["summary"], "summary needs Python 3.9 or later, and python3 is not on the PATH; "
                             "sqs_rehearse setup installs it on Debian", PATH=self.path("kit"))
-        self.make_program("tools/setup", "#!/bin/bash\necho installs\n")
+        self.script("tools/setup", "#!/bin/bash\necho installs\n")
         self.assertEqual(self.run_it("setup", PATH=self.path("kit")), (0, "installs\n", ""))
 
     def test_a_tool_with_an_older_python(self):
         """It is refused in one line, and a run that prints to the tool ends as if the tool had read all."""
-        self.make_program("tools/summary", "#!/bin/sh\necho runs\n")
-        self.make_program("kit/python3", "#!/bin/sh\necho 'python3 is Python 3.8'\n")
+        self.script("tools/summary", "#!/bin/sh\necho runs\n")
+        self.script("kit/python3", "#!/bin/sh\necho 'python3 is Python 3.8'\n")
         line = "summary needs Python 3.9 or later, and python3 is Python 3.8"
         self.assert_refused(["summary", "-"], line)
         self.assert_refused(["summary", "run.log"], line)
@@ -684,7 +675,7 @@ class Words(WrapperCase):
         with open(reader, "rb") as file:
             status, _, err = ran([self.path("sqs_rehearse"), "summary", "-"], env=self.environment, stdin=file)
             self.assertEqual((status, err, file.read()), (2, f"sqs_rehearse: {line}\n", b""))
-        self.make_program("kit/python3", "#!/bin/sh\nexit 1\n")
+        self.script("kit/python3", "#!/bin/sh\nexit 1\n")
         self.assert_refused(["summary"], "summary needs Python 3.9 or later, and python3 does not run")
 
     def test_the_package_with_an_older_python(self):
@@ -697,7 +688,6 @@ class Words(WrapperCase):
         self.make_built()
         self.write("s.toml", "script = 'a.csv'\n\"script\"=\"b.csv\"\nbody = \"c.csv\"\n")
         os.link(self.path("s.toml"), self.path("linked"))
-        os.mkdir(self.path("scripts"))
         for name in ("a.csv", "b.csv", "c.csv"):
             self.write(f"scripts/{name}", name)
         os.symlink("b.csv", self.path("scripts/led"))

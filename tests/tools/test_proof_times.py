@@ -19,7 +19,6 @@ SAVED = [
 class ProofTimes(ToolCase):
     def setUp(self):
         super().setUp()
-        os.makedirs(self.path("out/incremental/kept"))
         for moment, name in SAVED:
             path = self.write(f"out/incremental/kept/{name}", "")
             os.utime(path, (moment, moment))

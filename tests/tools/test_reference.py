@@ -131,14 +131,31 @@ def random_texts(profile, without=()):
             pass
 
 
-class OldVersions(unittest.TestCase):
+class ReferenceCase(unittest.TestCase):
     def assert_same(self, wanted, found):
         self.assertEqual(first_difference(wanted, found), "")
 
-    def test_stored_cases(self):
-        for case in OLD_STORED:
+    def assert_stored(self, cases, version):
+        for case in cases:
             with self.subTest(case=case.path):
-                self.assert_same(stored_outcome(case), referred(case.text))
+                self.assert_same(stored_outcome(case), referred(case.text, version))
+
+    def assert_changes_nothing(self, profile, change, least=0, without=()):
+        """What `change` makes of a random text runs as the text does. It gives None for one that does not count, and
+        another text for more than the least number."""
+        changed = 0
+        for seed, source, wanted in random_texts(profile, without):
+            text = change(source.decode("utf-8"))
+            if text is not None:
+                with self.subTest(seed=seed):
+                    self.assert_same(wanted, referred(text.encode("utf-8"), 3))
+                changed += text != source.decode("utf-8")
+        self.assertGreater(changed, least)
+
+
+class OldVersions(ReferenceCase):
+    def test_stored_cases(self):
+        self.assert_stored(OLD_STORED, 2)
 
     @needs_program
     def test_the_program_agrees_on_random_scenarios(self):
@@ -158,12 +175,10 @@ class OldVersions(unittest.TestCase):
                 self.assert_same(referred(source), referred(VERSION_2.sub(b"version = 3", source), 3))
 
 
-class VersionThree(unittest.TestCase):
+class VersionThree(ReferenceCase):
     def test_stored_cases(self):
         self.assertGreaterEqual(len(STORED_3), 110)
-        for case in STORED_3:
-            with self.subTest(case=case.path):
-                self.assertEqual(first_difference(stored_outcome(case), referred(case.text, 3)), "")
+        self.assert_stored(STORED_3, 3)
 
     @needs_program
     def test_the_program_agrees_on_stored_cases_without_the_word(self):
@@ -177,8 +192,7 @@ class VersionThree(unittest.TestCase):
             for seed, source, wanted in random_texts(profile):
                 with self.subTest(profile=profile, seed=seed):
                     for words in ([], split_words(source)):
-                        found = answered(PROGRAM, source, "--v3", *words)
-                        self.assertEqual(first_difference(wanted, found), "")
+                        self.assert_same(wanted, answered(PROGRAM, source, "--v3", *words))
 
     @needs_program
     def test_the_program_agrees_on_faults(self):
@@ -256,49 +270,35 @@ class VersionThree(unittest.TestCase):
         self.assertEqual(copied.output.count(b"send,new"), 27)
 
     def test_steps_that_say_what_one_number_says(self):
-        stepped = 0
-        for seed, source, wanted in random_texts("version-3", ["steps"]):
-            text = source.decode("utf-8")
-            if "visible_per_copy" in text and max(map(int, re.findall("copies_max = ([0-9]+)", text))) < 32:
-                with self.subTest(seed=seed):
-                    found = referred(PER_COPY.sub(steps_for, text).encode("utf-8"), 3)
-                    self.assertEqual(first_difference(wanted, found), "")
-                stepped += 1
-        self.assertGreater(stepped, 5)
+        def stepped(text):
+            is_short = "visible_per_copy" in text and max(map(int, re.findall("copies_max = ([0-9]+)", text))) < 32
+            return PER_COPY.sub(steps_for, text) if is_short else None
+
+        self.assert_changes_nothing("version-3", stepped, 5, ["steps"])
 
     def test_keys_that_name_nothing_change_nothing(self):
-        for seed, source, wanted in random_texts("version-2"):
-            with self.subTest(seed=seed):
-                found = referred(with_neutral_keys(source.decode("utf-8")).encode("utf-8"), 3)
-                self.assertEqual(first_difference(wanted, found), "")
+        self.assert_changes_nothing("version-2", with_neutral_keys)
 
     def test_lists_that_say_what_one_value_says(self):
         """A list with one queue, and one with the same chance for each outage."""
-        changed = 0
-        for seed, source, wanted in random_texts("version-3"):
-            with self.subTest(seed=seed):
-                text = re.sub(r'forward = ("[^"]*")', r"forward = [\1]", source.decode("utf-8"))
-                text = BETWEEN.sub(lambda it: f"{it[1]}{[int(it[2])] * (it[1].count('], [') + 1)}\n", text)
-                changed += text != source.decode("utf-8")
-                self.assertEqual(first_difference(wanted, referred(text.encode("utf-8"), 3)), "")
-        self.assertGreater(changed, 5)
+        def listed(text):
+            text = re.sub(r'forward = ("[^"]*")', r"forward = [\1]", text)
+            return BETWEEN.sub(lambda it: f"{it[1]}{[int(it[2])] * (it[1].count('], [') + 1)}\n", text)
+
+        self.assert_changes_nothing("version-3", listed, 5)
 
     def test_a_scaler_that_always_wants_one_copy_changes_nothing(self):
-        scaled = 0
-        for seed, source, wanted in random_texts("version-3", ["copies", "scaler"]):
-            text = source.decode("utf-8")
+        def scaled(text):
             homes = re.findall('kind = "consumer"\nqueue = "(.*)"\n', text)
             if "[[task]]" in text or not homes:
-                continue
+                return None
             text = re.sub('kind = "consumer"\nqueue = "(.*)"\n',
                           lambda it: f'{it[0]}scaler = "x{homes.index(it[1])}"\nscaler_start_ms = 700\n', text)
-            for number, home in enumerate(homes):
-                always_one = SCALED[len(HEAD):].replace("= 2", "= 1")
-                text += always_one.replace('"x"', f'"x{number}"').replace('"q"', f'"{home}"')
-            with self.subTest(seed=seed):
-                self.assertEqual(first_difference(wanted, referred(text.encode("utf-8"), 3)), "")
-            scaled += 1
-        self.assertGreater(scaled, 5)
+            always_one = SCALED[len(HEAD):].replace("= 2", "= 1")
+            return text + "".join(always_one.replace('"x"', f'"x{number}"').replace('"q"', f'"{home}"')
+                                  for number, home in enumerate(homes))
+
+        self.assert_changes_nothing("version-3", scaled, 5, ["copies", "scaler"])
 
     def test_a_batch_of_one_fails_as_a_whole_or_each(self):
         for seed, source, _ in random_texts("version-3"):
@@ -307,7 +307,7 @@ class VersionThree(unittest.TestCase):
                 text = re.sub("batch = [0-9]+\n", "batch = 1\n", text)
                 each, whole = (re.sub('batch_fails = "[a-z]+"\n', f'batch_fails = "{word}"\n', text).encode("utf-8")
                                for word in ("each", "whole"))
-                self.assertEqual(first_difference(referred(each, 3), referred(whole, 3)), "")
+                self.assert_same(referred(each, 3), referred(whole, 3))
 
     def test_failures_that_take_as_long_change_nothing(self):
         """Without outages it makes no difference when a service is decided: its words have the same order."""
@@ -317,7 +317,7 @@ class VersionThree(unittest.TestCase):
                               "service_min_ms = 50\nservice_max_ms = 50\n", source.decode("utf-8"))
                 text = text.replace("version = 2\n", "version = 3\n")
                 same = text.replace("service_min_ms", "fail_service_ms = 50\nservice_min_ms")
-                self.assertEqual(first_difference(referred(text.encode(), 3), referred(same.encode(), 3)), "")
+                self.assert_same(referred(text.encode(), 3), referred(same.encode(), 3))
 
     def test_random_scenarios_run(self):
         texts = [outcome.status for profile in ("version-3", "faulty-3") for _, _, outcome in random_texts(profile)]

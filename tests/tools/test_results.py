@@ -156,28 +156,20 @@ class Refused(unittest.TestCase):
             with self.assertRaises(Fault):
                 results.read_result(name, changed)
 
-    def test_short_of_a_queue(self) -> None:
-        rows = rows_of(Share(5, 10))
-        text = results.result_text(head(), COLUMNS, {5: rows[5][:1]})
-        self.assert_refused(file_of(5)[0], text, "is short of a queue: variant 5 has 1 of 2")
-        refusal = [*VARIANTS[4], "refused", "", "", ""]
-        text = results.result_text(head(), COLUMNS, {5: [rows[5][0], refusal]})
-        self.assert_refused(file_of(5)[0], text, "is short of a queue: variant 5 has 1 of 2")
+    def test_rows_that_are_wrong(self) -> None:
+        """A queue is lacking, once beside a refusal, or there twice; and a row is of another variant."""
+        first = rows_of(Share(5, 10))[5][0]
+        for others, line in (([], "is short of a queue: variant 5 has 1 of 2"),
+                             ([[*VARIANTS[4], "refused", "", "", ""]], "is short of a queue: variant 5 has 1 of 2"),
+                             ([first], "has a queue of variant 5 twice"),
+                             ([[*VARIANTS[3], "", "r", "0", ""]], "different settings in the rows of variant 5")):
+            with self.subTest(others=others):
+                self.assert_refused(file_of(5)[0], results.result_text(head(), COLUMNS, {5: [first, *others]}), line)
 
-    def test_a_queue_twice_and_two_variants_in_one(self) -> None:
-        rows = rows_of(Share(5, 10))
-        self.assert_refused(file_of(5)[0], results.result_text(head(), COLUMNS, {5: [rows[5][0], rows[5][0]]}),
-                            "has a queue of variant 5 twice")
-        other = [[*VARIANTS[3], "", "r", "0", ""]]
-        self.assert_refused(file_of(5)[0], results.result_text(head(), COLUMNS, {5: [rows[5][0], *other]}),
-                            "different settings in the rows of variant 5")
-
-    def test_a_file_of_another_sweep_under_this_ones_name(self) -> None:
+    def test_a_file_under_the_name_of_another_sweep_or_share(self) -> None:
         other = head(b"version = 1\n# fail_permille 600\n")
-        self.assert_refused(file_of(5)[0], file_of(5, of_head=other)[1], f"is foreign: it holds results of the sweep "
-                            f"{other.mark}")
-
-    def test_a_copy_under_the_name_of_another_share(self) -> None:
+        self.assert_refused(file_of(5)[0], file_of(5, of_head=other)[1],
+                            f"is foreign: it holds results of the sweep {other.mark}")
         self.assert_refused(file_of(6)[0], file_of(5)[1],
                             "is foreign: it holds variant 5, which is none of share 6/10 of 10")
 

@@ -9,10 +9,9 @@ import itertools
 import math
 import random
 import statistics
-import subprocess
 import unittest
 
-from tool import PROGRAM, needs_program
+from tool import needs_program, printed, report_in
 from scenario_texts import consumer, producer, queue_of, scenario_of, table
 
 SEEDS = range(1, 13)
@@ -89,11 +88,9 @@ def ours(seed: int, cooldown_in: int) -> list[float]:
                        producer("s", "q", SALE, (1, 99), start_ms=SALE_AT), policy,
                        consumer("w", "q", SERVICE, idle_ms=IDLE, copies=COPIES, scaler="x", scaler_start_ms=START),
                        version=3, seed=seed)
-    ran = subprocess.run([str(PROGRAM), "run", "--v3"], input=text.encode(), check=True, capture_output=True)
-    lines = ran.stdout.decode().split("\n")
-    head, row = (line.split(",") for line in lines if line.startswith(("report,queue", "report,q,")))
-    deletes, ages, most = (int(row[head.index(column)]) for column in COLUMNS)
-    return [ages / deletes, most, sum(",scale,ok," in line for line in lines)]
+    output = printed("run", "--v3", text=text)
+    deletes, ages, most = (int(report_in(output)[column]) for column in COLUMNS)
+    return [ages / deletes, most, output.count(",scale,ok,")]
 
 
 @needs_program

@@ -60,7 +60,6 @@ class Slurm(ToolCase):
             key.write(os.urandom(1024))
         os.mkdir(os.path.join(self.servers, "state"))
         self.start_servers()
-        os.mkdir(self.path("scripts"))
         self.write("scripts/calls.csv", CALLS)
         scenario = self.write("s.toml", SCENARIO)
         self.words = scenario, "--scripts", self.path("scripts"), "--vary", "seed=1..6"

@@ -1,7 +1,6 @@
 """Tests what is concluded from runs: by tables and closed forms, by coverage, and by queues whose laws are known."""
 import csv
 import functools
-import io
 import itertools
 import math
 import operator
@@ -12,10 +11,10 @@ import sys
 import unittest
 from collections.abc import Callable, Iterator
 
-from tool import PROGRAM, ROOT, TOOLS, ToolCase, module_at, needs_program, ran, text_at
+from tool import PROGRAM, ROOT, TOOLS, ToolCase, module_at, needs_program, ran, report_in, text_at
 
+from scenario_texts import consumer, queue_of, scenario_of, table
 from rehearse_tools import statistics as figures
-from rehearse_tools.logs import REPORT_HEADER
 
 REPETITIONS = 1_000
 # Most of the counts of 200 sweeps occur in many of them.
@@ -191,22 +190,20 @@ class Coverage(unittest.TestCase):
 class Verdicts(unittest.TestCase):
     def test_runs_that_all_pass(self) -> None:
         """Half of the weight is on 'all pass': so many runs that 0.95 ** -n / 2 is 20, less what the others add."""
-        self.assertEqual(figures.verdict(64, 64, 0.95), ("shown", 0))
-        self.assertEqual(figures.verdict(63, 63, 0.95), ("undecided", 1))
-        self.assertEqual(figures.verdict(20, 20, 0.95), ("undecided", 44))
+        self.assertEqual([figures.verdict(runs, runs, 0.95) for runs in (64, 63, 20)],
+                         [("shown", 0), ("undecided", 1), ("undecided", 44)])
         self.assertLessEqual(64, math.ceil(math.log(40) / -math.log(0.95)))
         self.assertGreaterEqual(64, math.ceil(math.log(20) / -math.log(0.95)))
 
     def test_runs_that_fail(self) -> None:
         """Two of two that fail are 400 times less likely at 95 % than where all fail, of which half is 200."""
-        self.assertEqual(figures.verdict(0, 2, 0.95), ("refuted", 0))
+        self.assertEqual([figures.verdict(passed, runs, 0.95) for passed, runs in ((0, 2), (50, 100), (0, 0))],
+                         [("refuted", 0), ("refuted", 0), ("undecided", None)])
         self.assertEqual(figures.verdict(0, 1, 0.95).word, "undecided")
-        self.assertEqual(figures.verdict(50, 100, 0.95), ("refuted", 0))
-        self.assertEqual(figures.verdict(0, 0, 0.95), ("undecided", None))
 
     def test_the_very_share_is_never_decided(self) -> None:
-        self.assertEqual(figures.verdict(95, 100, 0.95), ("undecided", None))
-        self.assertEqual(figures.verdict(950_000, 1_000_000, 0.95), ("undecided", None))
+        for passed, runs in ((95, 100), (950_000, 1_000_000)):
+            self.assertEqual(figures.verdict(passed, runs, 0.95), ("undecided", None))
 
     def test_so_many_more_runs_decide(self) -> None:
         """With the share as it is: 97 of 100 go on as 97 of each 100."""
@@ -297,9 +294,9 @@ class Differences(unittest.TestCase):
         self.assertAlmostEqual(found.probability, 0.01324, 5)
 
     def test_differences_without_spread(self) -> None:
-        self.assertEqual(figures.paired([1, 2], [1, 2]), (2, 0, (0, 0), 0, 0, 1))
-        self.assertEqual(figures.paired([1, 2], [0, 1]), (2, -1, (-1, -1), 0, 2, 0))
-        self.assertEqual(figures.paired([1], [3]), (1, 2, None, 1, 0, None))
+        for before, after, found in (([1, 2], [1, 2], (2, 0, (0, 0), 0, 0, 1)), ([1], [3], (1, 2, None, 1, 0, None)),
+                                     ([1, 2], [0, 1], (2, -1, (-1, -1), 0, 2, 0))):
+            self.assertEqual(figures.paired(before, after), found)
         with self.assertRaises(ValueError):
             figures.paired([1], [1, 2])
 
@@ -334,12 +331,9 @@ class WarmUp(unittest.TestCase):
         self.assertEqual(figures.settled_from(first + [50] * 10), 10)
         self.assertIsNone(figures.settled_from(first + first + [50] * 10))
 
-    def test_nothing_is_left_out_where_nothing_changes(self) -> None:
-        self.assertEqual(figures.settled_from([7] * 50), 0)
-
-    def test_a_run_that_grows_to_its_end_has_not_settled(self) -> None:
-        self.assertIsNone(figures.settled_from(list(range(200))))
-        self.assertIsNone(figures.settled_from([1] * 9))
+    def test_what_never_changes_or_grows_to_its_end_or_is_short(self) -> None:
+        self.assertEqual([figures.settled_from(numbers) for numbers in ([7] * 50, list(range(200)), [1] * 9)],
+                         [0, None, None])
 
     def test_the_least_squared_error_by_its_definition(self) -> None:
         """Each cut tried by hand over batches of five."""
@@ -442,26 +436,22 @@ class Queues(ToolCase):
             last = max(at, last + 1)
             lines.append(f"{last},send,m,,,,,,,,")
         self.write("sends.csv", "\n".join(lines) + "\n")
-        actors = "".join(f'[[actor]]\nname = "c{number}"\nkind = "consumer"\nqueue = "q"\nbatch = 1\nwait_s = 20\n'
-                         f'idle_ms = 1\nservice_min_ms = {service}\nservice_max_ms = {service}\n'
-                         for number in range(consumers))
+        keys = {"batch": 1, "wait_s": 20, "idle_ms": 1}
+        actors = [consumer(f"c{number}", "q", service, **keys) for number in range(consumers)]
         if scaled:
-            first = actors.partition("\n[[actor]]")[0]
-            actors = f'{first}\nscaler = "x"\ncopies = {consumers + 3}\n' \
-                f'[[actor]]\nname = "x"\nkind = "scaler"\nqueue = "q"\nevery_s = 60\nvisible_per_copy = 1\n' \
-                f'copies_min = {consumers}\ncopies_max = {consumers}\n'
-        version = 3 if scaled else 1
-        path = self.write("s.toml", f'version = {version}\nhorizon = {last + 10_000_000}\n[[queue]]\nname = "q"\n'
-                          f'visibility_s = 3600\n[[actor]]\nname = "s"\nkind = "script"\nqueue = "q"\n'
-                          f'script = "sends.csv"\n{actors}')
+            actors = [consumer("c0", "q", service, **keys, scaler="x", copies=consumers + 3),
+                      table("actor", name="x", kind="scaler", queue="q", every_s=60, visible_per_copy=1,
+                            copies_min=consumers, copies_max=consumers)]
+        sender = table("actor", name="s", kind="script", queue="q", script="sends.csv")
+        path = self.write("s.toml", scenario_of(last + 10_000_000, queue_of("q", visibility_s=3600), sender, *actors,
+                                                version=3 if scaled else 1))
         words = ["--log", self.path("log.csv")] if log else ["--log", os.devnull]
         preview = ["--preview"] if scaled else []
         return self.ends(0, ran([PROGRAM, "run", *preview, *words, "--scripts", self.folder, path]))[0]
 
     def mean_age(self, report: str) -> float:
         """The mean age in milliseconds of all messages, which have all been deleted."""
-        records = list(csv.reader(io.StringIO(report)))
-        row = dict(zip(REPORT_HEADER, records[records.index(REPORT_HEADER) + 1]))
+        row = report_in(report)
         self.assertEqual(row["deletes"], row["sends"])
         return int(row["age_sum"]) / int(row["deletes"])
 
@@ -482,8 +472,8 @@ class Queues(ToolCase):
         """Poisson arrivals, equal work: Crommelin's mean wait (1932), for one server that of Pollaczek."""
         service, cycle = 1_000, 1_001
         for servers, load in ((1, 0.7), (3, 0.8)):
-            wait = sum(float(figures.special().gammainc(turn * servers, turn * servers * load)
-                             - figures.special().gammainc(turn * servers + 1, turn * servers * load) / load)
+            wait = sum(float(figures.special.gammainc(turn * servers, turn * servers * load)
+                             - figures.special.gammainc(turn * servers + 1, turn * servers * load) / load)
                        for turn in range(1, 400))
             if servers == 1:
                 self.assertAlmostEqual(wait, load / 2 / (1 - load), 6)

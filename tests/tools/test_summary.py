@@ -12,6 +12,7 @@ import sys
 
 from tool import HEADER, PROGRAM, ROOT, TOOLS, ToolCase, log_at, module_of, needs_program, open_end, printed, text_at
 from rehearse_tools import summaries
+from rehearse_tools.console import Fault
 
 # A long poll; a batch of two; m-0-0 is handled by two consumers, m-0-1 after its timeout, m-0-2 as it has left for d.
 LOG = log_at("batch.log")
@@ -390,7 +391,7 @@ class Faults(SummaryCase):
             try:
                 summary.read_runs([path])
                 passed = True
-            except summary.Fault:
+            except Fault:
                 passed = False
             self.assertEqual(passed, end in whole, text[:end][-60:])
 
@@ -438,7 +439,7 @@ class Faults(SummaryCase):
                 queues = summary.values_of(runs, None)
                 json.loads(summary.json_of(runs, queues))
                 self.assertNotIn("\033", summary.text_of(runs, queues, summary.Style(False)))
-            except summary.Fault as fault:
+            except Fault as fault:
                 self.assertTrue(str(fault).isprintable())
                 refused += 1
         self.assertGreater(refused, 200)

@@ -60,8 +60,7 @@ class Sweeps(ToolCase):
         self.write("hosts", "2/:\n")
         folder = os.environ["PATH"]
         if not shutil.which("parallel"):
-            os.mkdir(self.path("bin"))
-            os.chmod(self.write("bin/parallel", PARALLEL), 0o755)
+            self.script("bin/parallel", PARALLEL)
             folder = f"{self.path('bin')}:{folder}"
         self.run_it(f"{FILES}/parallel.sh", "jobs", "hosts", PATH=folder)
         self.assert_collected()
@@ -71,7 +70,7 @@ class Sweeps(ToolCase):
 
         SHELL is not set, as in many containers."""
         self.write("hosts", "".join(f"{host}\n" for host in hosts))
-        os.chmod(self.write("ssh", SSH), 0o755)
+        self.script("ssh", SSH)
         environment = {**os.environ, "PARALLEL_SSH": self.path("ssh"), "CALLS": self.path("calls")}
         environment.pop("SHELL", None)
         status, _, err = ran([f"{FILES}/parallel.sh", "jobs", "hosts"], cwd=self.folder, stdin=subprocess.DEVNULL,

@@ -1,10 +1,9 @@
 """Tests of tests/types, in a folder that has a copy of it and few files."""
-import os
 import shutil
 import sys
 import unittest
 
-from tool import ROOT, ToolCase, ran
+from tool import ToolCase, ran
 
 TYPED = '"""A tool."""\n\n\ndef twice(number: int) -> int:\n    return 2 * number\n'
 MODULE = "/** @param {number} number */\nexport const twice = (number) => 2 * number;\n"
@@ -19,13 +18,8 @@ class Types(ToolCase):
         for path, text in {"tests/all.py": TYPED, "tests/house": f"#!/usr/bin/env python3\n{TYPED}",
                            "tools/rehearse_tools/__init__.py": "", "tools/one.py": TYPED,
                            "tools/text": "#!/bin/sh\n", "page/one.js": MODULE}.items():
-            self.write_file(path, text)
-        for path in ("tests/checks.py", "tests/types", "page/tsconfig.json"):
-            shutil.copy2(os.path.join(ROOT, path), self.path(path))
-
-    def write_file(self, name, text):
-        os.makedirs(os.path.dirname(self.path(name)), exist_ok=True)
-        self.write(name, text)
+            self.write(path, text)
+        self.copy("tests/checks.py", "tests/types", "page/tsconfig.json")
 
     def looked(self):
         """The status of tests/types and the lines that it prints."""
@@ -46,9 +40,9 @@ class Types(ToolCase):
 
     def test_faults(self):
         """A signature without types, a call against the types of another one, and an import that is not used."""
-        self.write_file("tools/bare.py", "def twice(number):\n    return 2 * number\n")
-        self.write_file("tools/wrong", "#!/usr/bin/env python3\nimport one\n\none.twice('2')\n")
-        self.write_file("tests/unused", "#!/usr/bin/env python3\nimport os\n")
+        self.write("tools/bare.py", "def twice(number):\n    return 2 * number\n")
+        self.write("tools/wrong", "#!/usr/bin/env python3\nimport one\n\none.twice('2')\n")
+        self.write("tests/unused", "#!/usr/bin/env python3\nimport os\n")
         status, lines = self.looked()
         self.assertEqual((status, lines[-2:]), (1, self.summed(8, 9, 1, 3)))
         self.assertEqual([line.split(": ")[0].split(":")[0:2] for line in lines[:-2] if line not in LEFT_OUT],
@@ -57,7 +51,7 @@ class Types(ToolCase):
     @unittest.skipUnless(HAS_TSC, "tsc is missing")
     def test_faults_of_the_page(self):
         """A module that calls a function against its types."""
-        self.write_file("page/wrong.js", 'import { twice } from "./one.js";\n\ntwice("2");\n')
+        self.write("page/wrong.js", 'import { twice } from "./one.js";\n\ntwice("2");\n')
         status, lines = self.looked()
         self.assertEqual((status, lines[-2:]), (1, self.summed(6, 6, 2, 1)))
         self.assertEqual([line.split("(")[0] for line in lines[:-2]], ["page/wrong.js"])

@@ -10,9 +10,11 @@ import csv
 import importlib.machinery
 import importlib.util
 import os
+import pathlib
 import pickle
 import re
 import shlex
+import shutil
 import socket
 import subprocess
 import sys
@@ -162,6 +164,12 @@ def printed(*words, text=None):
     return out
 
 
+def report_in(output, queue="q"):
+    """What the report that a run has printed says of a queue, by its columns."""
+    lines = (line for line in output.split("\n") if line.startswith(("report,queue,", f"report,{queue},")))
+    return dict(zip(*(line.split(",") for line in lines)))
+
+
 def ended(log, finals="", queues=()):
     """What a run prints that has this log: these records of its final queues follow, and a report that counts the rows
     of the log's queues, and of others. It has no numbers of ages, and no greatest depth."""
@@ -208,10 +216,21 @@ class ToolCase(unittest.TestCase):
         return os.path.join(self.folder, name)
 
     def write(self, name, text):
-        """Writes a file, of a text or of bytes, and returns its path."""
+        """Writes a file, of a text or of bytes, and makes its folder where that is not there; returns its path."""
+        os.makedirs(os.path.dirname(self.path(name)), exist_ok=True)
         with open(self.path(name), "wb") as file:
             file.write(text if isinstance(text, bytes) else text.encode())
         return self.path(name)
+
+    def read(self, name):
+        """The bytes of a file of the test's folder."""
+        with open(self.path(name), "rb") as file:
+            return file.read()
+
+    def copy(self, *names):
+        """Copies files of the repository to their places in the test's folder."""
+        for name in names:
+            shutil.copymode(os.path.join(ROOT, name), self.write(name, pathlib.Path(ROOT, name).read_bytes()))
 
     def script(self, name, text):
         """Writes a file that can be run."""

@@ -52,7 +52,7 @@ from collections.abc import Callable, Iterable, Iterator, Sequence
 from fractions import Fraction
 from typing import Any, NamedTuple
 
-from .console import Fault, Parser, check_output, csv_text, note, print_text, shown, write_text
+from .console import Fault, Parser, check_output, csv_text, note, print_text, refuse, shown, write_text
 from .queues import NAME, json_in, read_any
 from .records import PLAIN_NUMBER, column_of, records_in
 from .scenarios import text_of_string
@@ -134,8 +134,7 @@ def counted_from(times: Sequence[Fraction], origin: str | None, unit: int) -> li
     start = min(times) if origin is None else moment(origin, unit)
     if start is None:
         raise Fault(f"{shown(str(origin))} is no time")
-    if min(times) < start:
-        raise Fault(f"a time is before the origin {origin}")
+    refuse(min(times) < start, f"a time is before the origin {origin}")
     return [time - start for time in times]
 
 
@@ -162,8 +161,7 @@ def times_of_file(options: Namespace) -> list[Arrival]:
                             f"{shown(name)}")
         times.append(time)
         others.append((body, *ids))
-    if not times:
-        raise Fault(f"{path} has no times")
+    refuse(not times, f"{path} has no times")
     return [Arrival(time, *other) for time, other in zip(counted_from(times, options.origin, unit), others)]
 
 
@@ -201,8 +199,7 @@ def check_status(result: dict[str, Any], path: str) -> None:
 
 def times_of_metric(options: Namespace) -> list[Fraction]:
     points = points_of_metric(json_in(read_any(options.file), options.file), options.id, options.file)
-    if not 1 <= options.period <= 86_400:
-        raise Fault("a period has 1 to 86400 seconds")
+    refuse(not 1 <= options.period <= 86_400, "a period has 1 to 86400 seconds")
     starts = counted_from([time for time, _ in points], options.origin, 1_000)
     chance, times = random.Random(options.seed), []
     for start, (_, count) in sorted(zip(starts, points)):
@@ -243,8 +240,7 @@ def times_of_poisson(options: Namespace) -> list[int]:
 def times_of_bursts(options: Namespace) -> list[Fraction]:
     every, over = duration_of(options.every), duration_of(options.over)
     end, chance, times, start = duration_of(options.duration), random.Random(options.seed), [], Fraction(0)
-    if options.size < 1:
-        raise Fault("--size is at least 1")
+    refuse(options.size < 1, "--size is at least 1")
     while start < end:
         times += within(chance, start, options.size, over)
         check_count(len(times))
@@ -307,8 +303,7 @@ def write_scripts(records: list[list[Any]], options: Namespace) -> None:
     tables = []
     for path, part in zip(paths, parts):
         text = csv_text([HEADER, *part])
-        if len(text.encode("utf-8", "replace")) > BYTES_MOST:
-            raise Fault(f"a script has over {BYTES_MOST:,} bytes")
+        refuse(len(text.encode("utf-8", "replace")) > BYTES_MOST, f"a script has over {BYTES_MOST:,} bytes")
         write_text(path, text)
         name = os.path.splitext(os.path.basename(path))[0]
         tables.append(f'[[actor]]\nname = {text_of_string(name)}\nkind = "script"\n'

@@ -48,6 +48,12 @@ class Fault(Exception):
     """Bad input or usage; its text is the one line that the user gets."""
 
 
+def refuse(is_wrong: object, line: str) -> None:
+    """Raises the fault of a line if something is wrong."""
+    if is_wrong:
+        raise Fault(line)
+
+
 class Stopped(BaseException):
     """A signal that ends the tool, by its number, once what is open is closed and what is temporary is removed."""
 
@@ -92,6 +98,16 @@ def library(name: str, package: str) -> Any:
         return importlib.import_module(name)
     except ImportError:
         raise missing_library(name, package) from None
+
+
+class Library:
+    """The same, read when something of it is used first: a tool that does not use it need not have it."""
+
+    def __init__(self, name: str, package: str) -> None:
+        self.name, self.package = name, package
+
+    def __getattr__(self, name: str) -> Any:
+        return getattr(library(self.name, self.package), name)
 
 
 def toml_of(text: str) -> dict[str, Any]:
@@ -189,8 +205,7 @@ def check_output(path: str | None, inputs: Iterable[str | None] = ()) -> None:
         return
     folder = os.path.dirname(os.path.abspath(path))
     try:
-        if not os.path.exists(folder):
-            raise Fault(f"cannot write {path}: there is no folder {os.path.dirname(path)}")
+        refuse(not os.path.exists(folder), f"cannot write {path}: there is no folder {os.path.dirname(path)}")
         if not os.path.isdir(folder):
             raise OSError(errno.ENOTDIR, os.strerror(errno.ENOTDIR))
         if os.path.isdir(path):

@@ -12,7 +12,7 @@ from argparse import Namespace
 from collections.abc import Iterable, Sequence
 from typing import Any, Optional
 
-from .console import Fault, read_text, shown
+from .console import Fault, read_text, refuse, shown
 from .drawing import ALARM, CAPTION, FOOT, GREY, LEFT, LINE, RIGHT, Sheet, head_of, ticks_of
 from .requirements import Requirement, folded_as, interval_of_mean
 from .runs import ALL_COLUMNS
@@ -51,8 +51,7 @@ class Rows:
         self.columns = rest[3:] if self.is_folded else rest[2:]
         known = [f"{column}_{of}" for column in ALL_COLUMNS for of in folded_as(column)] \
             if self.is_folded else ALL_COLUMNS
-        if rest[:2] != ["failed", "queue"] or not set(self.columns) <= set(known):
-            raise Fault(f"{path} has no rows of a sweep")
+        refuse(rest[:2] != ["failed", "queue"] or not set(self.columns) <= set(known), f"{path} has no rows of a sweep")
         self.rows: list[tuple[dict[str, str], str, int, dict[str, float]]] = []
         self.failed = 0
         for place, record in enumerate(records[1:], 2):
@@ -124,8 +123,7 @@ def curves_of(rows: Rows, setting: str, text: str) -> list[Curve]:
     if queue not in rows.queues():
         raise Fault(f"{shown(text)}: the sweep has no queue {shown(queue)}; it has {', '.join(rows.queues())}")
     keys = [f"{column}_{of}" for of in ("mean", "least", "greatest")] if rows.is_folded else [column] * 3
-    if not set(keys) <= set(rows.columns):
-        raise Fault(f"{shown(text)}: the sweep has no column {shown(column)}")
+    refuse(not set(keys) <= set(rows.columns), f"{shown(text)}: the sweep has no column {shown(column)}")
     curves: dict[tuple[tuple[str, str], ...], Curve] = {}
     for varied, name, runs, numbers in rows.rows:
         if name == queue:
@@ -285,18 +283,15 @@ class Panel:
 
 def sweep_picture(options: Namespace) -> Any:
     """The figure of the columns that were asked for, over the rows of a sweep in a file."""
-    if not options.column:
-        raise Fault("--column is needed, as --column orders.age_p95")
+    refuse(not options.column, "--column is needed, as --column orders.age_p95")
     rows = Rows(options.log)
-    if not rows.rows:
-        raise Fault(f"{options.log} has no variant that ran")
+    refuse(not rows.rows, f"{options.log} has no variant that ran")
     axis = Axis(rows, setting_of(rows, options.setting))
     requirements = [Requirement(text) for text in options.require]
     panels = [Panel(rows, axis, text, options.width - LEFT - RIGHT, requirements)
               for text in dict.fromkeys(options.column)]
     for one in requirements:
-        if not any(one in panel.required for panel in panels):
-            raise Fault(f"{one.text}: no --column is drawn of it")
+        refuse(not any(one in panel.required for panel in panels), f"{one.text}: no --column is drawn of it")
     told = f"rows of variants that failed, and are left out: {rows.failed:,}" if rows.failed else ""
     fixed = head_of(told) + FOOT + sum(panel.head for panel in panels)
     height = PANEL_HEIGHT if options.height is None else (options.height - fixed) // len(panels)

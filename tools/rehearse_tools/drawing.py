@@ -12,7 +12,7 @@ import warnings
 from collections.abc import Collection, Sequence
 from typing import Any
 
-from .console import library
+from .console import Library
 
 # What matplotlib says of its own folders and fonts is no line of a tool.
 logging.getLogger("matplotlib").setLevel(logging.ERROR)
@@ -35,6 +35,8 @@ LEFT, RIGHT, HEAD, LINE, CAPTION, FOOT = 76, 30, 34, 16, 30, 52
 FORMATS = {".svg": "svg", ".png": "png", ".pdf": "pdf"}
 # Dots an inch, by which a pixel of a PNG is as long as one of an SVG.
 DOTS = 96
+matplotlib, fonts, boxes, drawn_texts, figures, agg = (Library(f"matplotlib{name}", "python3-matplotlib") for name in (
+    "", ".font_manager", ".offsetbox", ".text", ".figure", ".backends.backend_agg"))
 
 
 def nice_step(span: float, most: int, steps: Collection[float] = ()) -> float:
@@ -69,7 +71,7 @@ def ticks_of(low: float, high: float, most: int, is_time: bool) -> tuple[list[fl
 def letters_of(path: str) -> frozenset[int]:
     """The characters that the font of a file has, by their numbers."""
     try:
-        return frozenset(library("matplotlib.font_manager", "python3-matplotlib").get_font(path).get_charmap())
+        return frozenset(fonts.get_font(path).get_charmap())
     except (OSError, RuntimeError):
         return frozenset()
 
@@ -77,7 +79,6 @@ def letters_of(path: str) -> frozenset[int]:
 @functools.lru_cache
 def letters_of_family(name: str) -> frozenset[int]:
     """The characters that a font has by its family."""
-    fonts = library("matplotlib.font_manager", "python3-matplotlib")
     return letters_of(fonts.findfont(fonts.FontProperties(family=[name])))
 
 
@@ -88,15 +89,14 @@ def family_of(text: str) -> list[str] | None:
     lacking = frozenset(map(ord, text)) - letters_of_family("sans-serif")
     if not lacking:
         return None
-    fonts = library("matplotlib.font_manager", "python3-matplotlib").fontManager.ttflist
-    other = max(fonts, key=lambda font: len(lacking & letters_of(font.fname)))
+    other = max(fonts.fontManager.ttflist, key=lambda font: len(lacking & letters_of(font.fname)))
     return ["sans-serif", other.name] if lacking & letters_of(other.fname) else None
 
 
 def letters_without_font(figure: Any) -> str:
     """The letters of a figure that no font of its texts has."""
     lacking: dict[str, None] = {}
-    for drawn in figure.findobj(library("matplotlib.text", "python3-matplotlib").Text):
+    for drawn in figure.findobj(drawn_texts.Text):
         there = [letters_of_family(name) for name in drawn.get_fontfamily()]
         lacking.update({letter: None for letter in drawn.get_text()
                         if letter != "\n" and not any(ord(letter) in letters for letters in there)})
@@ -107,10 +107,10 @@ class Sheet:
     """A figure of matplotlib, laid out in pixels from the top."""
 
     def __init__(self, width: int, height: float) -> None:
-        self.figure = library("matplotlib.figure", "python3-matplotlib").Figure(dpi=DOTS)
+        self.figure = figures.Figure(dpi=DOTS)
         self.width, self.height, self.room = width, height, width - LEFT - RIGHT
         self.figure.set_size_inches((width + 0.01) / DOTS, (height + 0.01) / DOTS)
-        library("matplotlib.backends.backend_agg", "python3-matplotlib").FigureCanvasAgg(self.figure)
+        agg.FigureCanvasAgg(self.figure)
 
     def text(self, x: float, y: float, text: str, size: float, **more: Any) -> None:
         self.figure.text(x / self.width, 1 - y / self.height, text, fontsize=size, va="baseline", parse_math=False,
@@ -168,7 +168,6 @@ class Sheet:
 
     def caption(self, axes: Any, *lines: Sequence[tuple[str, str]]) -> None:
         """Lines of words side by side above a frame, each in the colour of what it names."""
-        boxes = library("matplotlib.offsetbox", "python3-matplotlib")
         rows = [boxes.HPacker(pad=0, sep=6, children=[
             boxes.TextArea(text, textprops={"color": colour, "size": 8.5, "parse_math": False,
                                             "family": family_of(text),
@@ -189,8 +188,7 @@ def bytes_of(figure: Any, kind: str) -> bytes:
 
     The label of the figure is its text for those who do not see it: a title, and lines that describe it.
     """
-    matplotlib, stream = library("matplotlib", "python3-matplotlib"), io.BytesIO()
-    title, _, described = figure.get_label().partition("\n")
+    stream, (title, _, described) = io.BytesIO(), figure.get_label().partition("\n")
     metadata = {"svg": {"Date": None, "Title": title}, "pdf": {"CreationDate": None, "Title": title},
                 "png": {"Title": title, "Description": described}}[kind]
     with matplotlib.rc_context({"svg.fonttype": "none", "svg.hashsalt": "sqs_rehearse", "path.simplify": False}):

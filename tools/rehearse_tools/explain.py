@@ -34,7 +34,7 @@ from .loads import text_of_loads
 from .positions import Lost, Path, Positions
 from .programs import program_of, reading_words
 from .scenarios import parsed, text_of_value as text_of
-from .scripts import fault_of_script
+from .scripts import fault_of_script, nearest
 from .starting import ran
 from .units import several
 
@@ -166,12 +166,6 @@ class Scenario:
 
 def value_text(value: Any) -> str:
     return shown(str(value).lower() if isinstance(value, bool) else str(value))
-
-
-def nearest(word: Any, words: Sequence[str]) -> str:
-    """A question that names the nearest of some words; empty if none is near."""
-    found = difflib.get_close_matches(str(word), words, 1, 0.6)
-    return f" Did you mean {found[0]}?" if found else ""
 
 
 def unknown_key(scenario: Scenario) -> str:

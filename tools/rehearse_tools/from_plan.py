@@ -31,7 +31,7 @@ Examples:
 from collections.abc import Sequence
 
 from .actors import Wiring
-from .console import Fault, Parser, shown
+from .console import Fault, Parser, refuse, shown
 from .found import Found, table
 from .making import add_options, check_options, tell_and_write
 from .plans import ARGUMENTS, Plan
@@ -42,8 +42,7 @@ from .templates import Template, yaml_in
 def parameters_of(texts: list[str]) -> dict[str, str]:
     """The parameters that are given as KEY=VALUE."""
     for text in texts:
-        if not text.partition("=")[0] or "=" not in text:
-            raise Fault(f"{shown(text)} is no parameter, as Stage=prod")
+        refuse(not text.partition("=")[0] or "=" not in text, f"{shown(text)} is no parameter, as Stage=prod")
     return {key: value for key, _, value in (text.partition("=") for text in texts)}
 
 
@@ -52,8 +51,7 @@ def found_in(path: str, parameters: dict[str, str]) -> tuple[dict[str, Found], W
     text = read_any(path)
     found = json_in(text, path) if text.lstrip()[:1] in ("{", "[") else yaml_in(text, path)
     if table(found, "planned_values") or table(found, "values"):
-        if parameters:
-            raise Fault("--parameter goes with a template; a plan has the values of its variables")
+        refuse(parameters, "--parameter goes with a template; a plan has the values of its variables")
         plan = Plan(found)
         return plan.queues, plan.wiring, "a plan of Terraform", ARGUMENTS
     if table(found, "Resources"):
@@ -63,8 +61,7 @@ def found_in(path: str, parameters: dict[str, str]) -> tuple[dict[str, Found], W
 
 
 def queue_from(found: Found, latency: int, called: dict[str, str]) -> Queue:
-    if not NAME.fullmatch(found.name):
-        raise Fault(f"{found.place} has a name that no scenario has: {shown(found.name)}")
+    refuse(not NAME.fullmatch(found.name), f"{found.place} has a name that no scenario has: {shown(found.name)}")
     queue = queue_of(found.name, found.attributes, latency, called, found.unknown)
     for note in found.notes:
         queue.note(note)
@@ -78,7 +75,6 @@ def main(words: Sequence[str]) -> int:
     options = parser.parse_args(words)
     check_options(options, [options.file])
     found, wiring, source, called = found_in(options.file, parameters_of(options.parameter))
-    if not found:
-        raise Fault(f"{options.file} has no queues")
+    refuse(not found, f"{options.file} has no queues")
     queues = [queue_from(queue, options.latency, called) for queue in found.values()]
     return tell_and_write(with_dead_letters(queues, "resource"), options, source, wiring, options.v3)

@@ -31,7 +31,7 @@ Examples:
 
 from collections.abc import Mapping, Sequence
 
-from .console import Fault, Parser, shown
+from .console import Fault, Parser, refuse, shown
 from .making import add_options, check_options, tell_and_write
 from .queues import NAME, Queue, json_in, queue_of, read_any, with_dead_letters
 
@@ -59,8 +59,7 @@ def name_of(path: str, attributes: Mapping[str, str]) -> str:
         name = attributes["QueueUrl"].rstrip("/").rpartition("/")[2]
     else:
         raise Fault(f"{path} has neither QueueArn nor QueueUrl, so the queue's name is not known")
-    if not NAME.fullmatch(name):
-        raise Fault(f"{path} has a queue name that no scenario has: {shown(name)}")
+    refuse(not NAME.fullmatch(name), f"{path} has a queue name that no scenario has: {shown(name)}")
     return name
 
 

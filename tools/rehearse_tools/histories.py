@@ -11,7 +11,7 @@ from collections import Counter
 from collections.abc import Sequence
 from typing import Any, NamedTuple
 
-from .console import Fault, library, shown
+from .console import Fault, Library, refuse, shown
 from .logs import NUMBER, Head, Log, What
 from .replay import (DELAYED, IN_FLIGHT, NOWHERE, VISIBLE, BadRow, Places, Replay, copies_in, handlers_of, replay,
                      take_finals)
@@ -29,6 +29,7 @@ PLACE, GONE = "i", -1 - NOWHERE
 LOG_RATIO = 100
 # A picture ends with the traffic if that takes less than this share of the run.
 TRAFFIC_SHARE = 0.8
+numpy = Library("numpy", "python3-numpy")
 
 
 def no_moments() -> "array[int]":
@@ -168,8 +169,7 @@ class Histories:
             self.read(log)
         except OverflowError as reason:
             raise Fault(f"{log.path} line {log.line}: {cannot_be(str(reason))}") from None
-        if not self.queues:
-            raise Fault(f"{log.path} has no rows to draw")
+        refuse(not self.queues, f"{log.path} has no rows to draw")
         take_finals(log, self.queues)
         self.known = None if log.is_open else list(log.report)
 
@@ -210,7 +210,6 @@ class Histories:
 
 def moments(numbers: "array[int]") -> Any:
     """An array of moments or ages for numpy, without a copy."""
-    numpy = library("numpy", "python3-numpy")
     return numpy.frombuffer(numbers, dtype=numpy.uint32)
 
 
@@ -219,7 +218,6 @@ def levels(queue: History, place: int, start: int, end: int) -> tuple[Any, Any]:
 
     The first moment is the start and the last the end. What changes back within a millisecond is left out.
     """
-    numpy = library("numpy", "python3-numpy")
     by_code = numpy.array([(code % 4 == place) - (code // 4 == place) for code in range(16)], dtype=numpy.int8)
     steps = by_code[numpy.frombuffer(queue.changes, dtype=numpy.uint8)]
     is_change = steps != 0
@@ -238,7 +236,6 @@ def levels(queue: History, place: int, start: int, end: int) -> tuple[Any, Any]:
 
 def copies_levels(times: "array[int]", numbers: Sequence[int], start: int, end: int) -> tuple[Any, Any]:
     """The same of the copies that a scaler lets ask."""
-    numpy = library("numpy", "python3-numpy")
     changed, asking = moments(times), numpy.array(numbers, dtype=numpy.int32)
     begin, stop = numpy.searchsorted(changed, numpy.array([start, end]), side="right")
     return (numpy.concatenate(([start], changed[begin:stop], [end])).astype(numpy.uint32),
@@ -257,18 +254,15 @@ class Course(NamedTuple):
 
     def corners(self) -> tuple[Any, Any]:
         """The corners of the line."""
-        numpy = library("numpy", "python3-numpy")
         return (numpy.stack([self.times[:-1], self.times[1:]], axis=1).ravel(),
                 numpy.stack([self.firsts, self.lasts], axis=1).ravel())
 
     def greatest(self) -> float:
         """The greatest number; 0 if there is none."""
-        numpy = library("numpy", "python3-numpy")
         return 0.0 if numpy.isnan(self.lasts).all() else float(numpy.nanmax(self.lasts))
 
     def split_at(self, moments: Any) -> "Course":
         """The same with spans that also begin at these moments, which are whole, ascend, and are within the times."""
-        numpy = library("numpy", "python3-numpy")
         places = numpy.searchsorted(self.times, moments, side="left")
         spans = places - 1
         lengths = (self.times[places] - self.times[spans]).astype(float)
@@ -285,7 +279,6 @@ class Course(NamedTuple):
     def extents(self, columns: int) -> "Extents":
         """The mean, least and greatest number in each of `columns` equal columns of time, each of some whole
         milliseconds."""
-        numpy = library("numpy", "python3-numpy")
         start, end = int(self.times[0]), int(self.times[-1])
         columns = max(1, min(columns, end - start))
         bounds = numpy.floor(numpy.linspace(start, end, columns + 1))
@@ -318,13 +311,11 @@ def course_of(times: Any, numbers: Any) -> Course:
 
 def edges(start: int, end: int, bins: int) -> Any:
     """The limits of `bins` bins of time, each at least a millisecond long."""
-    numpy = library("numpy", "python3-numpy")
     return numpy.linspace(start, end, max(1, min(bins, end - start)) + 1)
 
 
 def ages_in(queue: History, bounds: Any, percents: Sequence[int] = (50, 95, 100)) -> list[Any]:
     """For each percentage the nearest rank of the ages deleted in each bin; none if nothing was deleted."""
-    numpy = library("numpy", "python3-numpy")
     ages = moments(queue.ages)
     bins = bin_of(moments(queue.deleted_at), bounds)
     is_inside = (bins >= 0) & (bins < len(bounds) - 1)
@@ -349,7 +340,6 @@ def ages_are_spread(queue: History, bounds: Any) -> bool:
 
 def bin_of(times: Any, bounds: Any) -> Any:
     """The index of the bin of each time; a time at the end of the last bin is in it."""
-    numpy = library("numpy", "python3-numpy")
     bins = (numpy.searchsorted(bounds, times, side="right") - 1).astype(numpy.int32)
     bins[times == bounds[-1]] = len(bounds) - 2
     return bins
@@ -357,14 +347,12 @@ def bin_of(times: Any, bounds: Any) -> Any:
 
 def counts_in(times: "array[int]", bounds: Any) -> Any:
     """How many times are in each bin."""
-    numpy = library("numpy", "python3-numpy")
     bins = bin_of(moments(times), bounds)
     return numpy.bincount(bins[(bins >= 0) & (bins < len(bounds) - 1)], minlength=len(bounds) - 1)
 
 
 def oldest(queue: History, start: int, end: int) -> Course:
     """The age of the oldest message over time; none while the queue is empty."""
-    numpy = library("numpy", "python3-numpy")
     at, since = moments(queue.oldest_at), moments(queue.sinces)
     begin, stop = numpy.searchsorted(at, numpy.array([start, end]), side="right")
     begin = max(0, begin - 1)
@@ -378,7 +366,6 @@ def oldest(queue: History, start: int, end: int) -> Course:
 
 def ages_since(times: Any, since: Any) -> Any:
     """How long ago the oldest message came at some times; none if there is no message."""
-    numpy = library("numpy", "python3-numpy")
     ages = (times - since).astype(numpy.float32)
     ages[since == NONE] = numpy.nan
     return ages

@@ -8,7 +8,7 @@ import os
 import shlex
 from typing import NamedTuple
 
-from .console import Fault, check_output, make_folder, path_of, print_text, read_bytes, shown, tell
+from .console import Fault, check_output, make_folder, path_of, print_text, read_bytes, refuse, shown, tell
 from .results import (WINDOW, Collection, Head, Rows, Share, checksum, checksum_of_scripts, collected, files_in,
                       left_of, name_of, ranges_of, read_result, shares_left, text_at, write_result)
 from .runs import COLUMNS
@@ -34,8 +34,7 @@ def scripts_of(sweep: Sweep) -> dict[str, bytes]:
 
 def head_of(sweep: Sweep, program: str) -> Head:
     """The data that distinguish the sweep from others, run by the program at a path."""
-    if sweep.path == "-":
-        raise Fault("jobs read the scenario from a file, and not from standard input")
+    refuse(sweep.path == "-", "jobs read the scenario from a file, and not from standard input")
     return Head(checksum(sweep.given_text), checksum_of_scripts(scripts_of(sweep)),
                 checksum(read_bytes(program)), tuple(sweep.settings.given), len(sweep.settings),
                 len(names_of(sweep.scenario, "queue")), window_of(sweep))
@@ -55,8 +54,7 @@ def command(sweep: Sweep, share: Share, folder: str, mark: str) -> str:
               "--scripts", os.path.abspath(sweep.scripts), "--share", f"{share.number}/{share.of}", "--mark", mark,
               "--results", os.path.abspath(folder)]
     for word in words:
-        if "\n" in word:
-            raise Fault(f"a job is one line, and {shown(word)} has a line end")
+        refuse("\n" in word, f"a job is one line, and {shown(word)} has a line end")
     return shlex.join(words)
 
 

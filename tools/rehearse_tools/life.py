@@ -31,7 +31,7 @@ from collections import Counter
 from collections.abc import Callable, Container, Mapping, Sequence
 from typing import Optional
 
-from .console import Fault, Parser
+from .console import Fault, Parser, refuse
 from .logs import Final, Head, Log, Row, Rows, Take, What, message_of_receipt, tell_open
 from .origins import Forwards, Origins, origin_of
 from .replay import ENTERS, LEAVES, Checked, checked, faults_told, handlers_of, ignored, is_forward, replay
@@ -76,8 +76,7 @@ class Found(Exception):
 
 def origin_named(log: Log, name: str) -> str:
     """The origin that a text names. An id of one queue is looked up in the row with which it came in."""
-    if not ID.fullmatch(name):
-        raise Fault(f"{name} is no id of a message, as o-0-17 or m-0-17")
+    refuse(not ID.fullmatch(name), f"{name} is no id of a message, as o-0-17 or m-0-17")
     if name.startswith("o"):
         return name
     def take(at: int, head: Head, message: str, receipt: str, detail: str) -> None:
@@ -121,8 +120,7 @@ class Lives:
         self.ids: dict[str | None, Life] = {}
         self.add(origin)
         read(log, self.take_of)
-        if not self.all[origin].rows:
-            raise Fault(f"{log.path} has no message with the origin {origin}")
+        refuse(not self.all[origin].rows, f"{log.path} has no message with the origin {origin}")
 
     def add(self, origin: str) -> None:
         if origin not in self.all:
@@ -230,8 +228,7 @@ def told(life: Life, place: int) -> str:
         return told_change(row)
     if what == ("expire", "expired"):
         return f"expired, {duration(int(row.detail))} old"
-    if what not in WORDS:
-        raise Fault(f"a row at {row.at} ms has a call that no log has: {row.call},{row.answer}")
+    refuse(what not in WORDS, f"a row at {row.at} ms has a call that no log has: {row.call},{row.answer}")
     return WORDS[what].format(agent=row.agent, detail=row.detail)
 
 
@@ -349,10 +346,9 @@ def main(words: Sequence[str]) -> int:
     parser.add_argument("log", metavar="LOG")
     parser.add_argument("id", metavar="ID", nargs="?")
     options = parser.parse_intermixed_args(words)
-    if options.worst == (options.id is not None):
-        raise Fault("an ID or --worst is needed, and not both (--help tells the usage)")
-    if not 1 <= options.most <= MOST:
-        raise Fault(f"--most is 1 to {MOST:,}")
+    refuse(options.worst == (options.id is not None),
+           "an ID or --worst is needed, and not both (--help tells the usage)")
+    refuse(not 1 <= options.most <= MOST, f"--most is 1 to {MOST:,}")
     log = Log(options.log, rest=options.rest)
     if options.worst:
         tell_worst(log, options.most)

@@ -9,7 +9,7 @@ from itertools import chain
 from operator import length_hint
 from typing import Any, NamedTuple, TextIO
 
-from .console import Fault, Progress, note, shown
+from .console import Fault, Progress, note, refuse, shown
 from .fact_tables import rows_of
 
 
@@ -278,8 +278,7 @@ class Log:
         self.report: dict[str, Numbers] = {}
         self.counts: Counter[tuple[str, What]] = Counter()
         self.left: Counter[tuple[str, str]] = Counter()
-        if path == rest == "-":
-            raise Fault("standard input can be read once")
+        refuse(path == rest == "-", "standard input can be read once")
 
     @property
     def name(self) -> str:
@@ -365,16 +364,14 @@ class Log:
     def begun(self, blocks: Iterator[Block]) -> Iterator[Block]:
         """The lines after the first one, which must be the header of a log."""
         lines, has_quotes, _ = next((block for block in blocks if block.lines), Block([], False))
-        if not lines:
-            raise Fault(f"{self.name} is empty: no run has written to it")
+        refuse(not lines, f"{self.name} is empty: no run has written to it")
         header, self.line, self.at = lines[0].split(","), 1, 0
         rest = chain([Block(lines[1:], has_quotes)], blocks)
         if header == FINAL_HEADER and self.may_lack_rows:
             self.has_rows = False
             self.read_parts(line for block in rest for line in block.lines)
             return
-        if header != LOG_HEADER:
-            raise Fault(f"{self.path} is no log: its first line is not {','.join(LOG_HEADER)}")
+        refuse(header != LOG_HEADER, f"{self.path} is no log: its first line is not {','.join(LOG_HEADER)}")
         yield from rest
 
     def rows(self) -> list[list[Any]]:
@@ -421,16 +418,14 @@ def rest_in(path: str, wanted: Sequence[str]) -> Log:
     """What follows a log, from a file that has that alone."""
     rest = Log(path, wanted, may_lack_rows=True)
     next(rest.begun(rest.blocks()), None)
-    if rest.has_rows:
-        raise Fault(f"{rest.name} has a log of its own, and is not the rest of another one")
+    refuse(rest.has_rows, f"{rest.name} has a log of its own, and is not the rest of another one")
     return rest
 
 
 def numbers_of(record: Sequence[str], path: str) -> Numbers:
     """The numbers of a record of the report by their columns; None for the ages that nothing has."""
     numbers: Numbers = {}
-    if len(record) != len(REPORT_HEADER):
-        raise Fault(f"{path}: its report has a line of {len(record)} fields")
+    refuse(len(record) != len(REPORT_HEADER), f"{path}: its report has a line of {len(record)} fields")
     for column, text in zip(REPORT_HEADER[2:], record[2:]):
         if not NUMBER.fullmatch(text) and (text or column not in AGES):
             raise Fault(f"{path}: {shown(text)} is no number for {column} in a report")

@@ -6,7 +6,7 @@ from argparse import Namespace
 from collections.abc import Iterable, Sequence
 
 from .actors import Actors, Wiring, plain, topics_in
-from .console import Fault, Parser, check_output, note, write_text
+from .console import Fault, Parser, check_output, note, refuse, write_text
 from .keys import VERSION_3
 from .queues import Queue
 
@@ -69,8 +69,7 @@ def tell_and_write(queues: list[Queue], options: Namespace, source: str, wiring:
     """
     topics = topics_in(wiring, queues, options.latency) if wiring and is_version_3 else []
     queues = [*queues, *(topic.queue for topic in topics)]
-    if len(queues) > QUEUES_MOST:
-        raise Fault(f"{len(queues)} queues are too many: a scenario has at most {QUEUES_MOST}")
+    refuse(len(queues) > QUEUES_MOST, f"{len(queues)} queues are too many: a scenario has at most {QUEUES_MOST}")
     faults = [f"{queue.name}: {fault}" for queue in queues for fault in queue.faults]
     if faults:
         for line in faults:

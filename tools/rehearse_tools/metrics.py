@@ -57,7 +57,7 @@ from argparse import Namespace
 from collections.abc import Iterable, Iterator, Sequence
 from typing import NamedTuple
 
-from .console import Fault, Parser, check_output, note, print_text, shown, write_text
+from .console import Fault, Parser, check_output, note, print_text, refuse, shown, write_text
 from .logs import NUMBER, Head, Log, What, tell_open
 from .measured import csv_of, differences_of, series_in, sums_of
 from .replay import (DELAYED, IN_FLIGHT, MESSAGE, NOWHERE, NUMBERED, VISIBLE, Checked, Places, UnknownKind,
@@ -333,14 +333,11 @@ def options_of(words: Sequence[str]) -> Namespace:
                                   lists=["--queue", "--alarm"], numbers={"--period": 60})
     parser.add_argument("log", metavar="LOG")
     options = parser.parse_args(words)
-    if options.against and options.alarm:
-        raise Fault("--against and --alarm do not go together")
-    if options.origin and not options.against:
-        raise Fault("--origin goes with --against")
-    if options.scenario is not None and options.last is not None:
-        raise Fault("--scenario and --to both tell when the run ends: one is enough")
-    if not 1 <= options.period <= PERIODS_MOST:
-        raise Fault(f"a period has 1 to {PERIODS_MOST} seconds")
+    refuse(options.against and options.alarm, "--against and --alarm do not go together")
+    refuse(options.origin and not options.against, "--origin goes with --against")
+    refuse(options.scenario is not None and options.last is not None,
+           "--scenario and --to both tell when the run ends: one is enough")
+    refuse(not 1 <= options.period <= PERIODS_MOST, f"a period has 1 to {PERIODS_MOST} seconds")
     return options
 
 

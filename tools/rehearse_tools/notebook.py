@@ -21,7 +21,7 @@ from contextlib import contextmanager
 from typing import Any, NamedTuple, Union
 
 from . import sweep as tool
-from .console import ENDING, Fault, library
+from .console import ENDING, Fault, library, refuse
 from .logs import FINAL_HEADER, HEADERS, LOG_HEADER, Log, tell_open
 from .programs import program_of, version_words
 from .runs import first_line
@@ -77,8 +77,7 @@ def rehearse(scenario: str, settings: Mapping[str, Value] | None = None, scripts
         words = {Setting(name): word_of(value) for name, value in (settings or {}).items()}
         text = written(varied(scenario_at(path), words))
         status, told = ran(command, text.encode("utf-8", "replace"), out)
-        if status:
-            raise Fault(first_line(told))
+        refuse(status, first_line(told))
         output = f"/dev/fd/{out.fileno()}"
         log = Log(output, wanted=PARTS)
         rows = table_of(LOG_HEADER, log.rows(), as_lists)
@@ -157,8 +156,7 @@ def file_of(scenario: str) -> Iterator[str]:
 def called_as(name: str) -> Iterator[None]:
     """Lets a tool tell its lines by its name, and keeps what it does with signals to itself."""
     words, is_main = sys.argv, threading.current_thread() is threading.main_thread()
-    if not is_main:
-        raise Fault("a sweep runs in the main thread, where it can be interrupted")
+    refuse(not is_main, "a sweep runs in the main thread, where it can be interrupted")
     kept = {number: signal.getsignal(number) for number in (signal.SIGINT, *ENDING)}
     sys.argv = [name]
     try:
@@ -186,8 +184,7 @@ def option_words(options: Mapping[str, Words]) -> list[str]:
     """The words of the command line for some options."""
     words: list[str] = []
     for name, given in options.items():
-        if name not in OPTIONS:
-            raise Fault(f"a sweep takes no {name} here; it takes vary, {', '.join(OPTIONS)}")
+        refuse(name not in OPTIONS, f"a sweep takes no {name} here; it takes vary, {', '.join(OPTIONS)}")
         each = [str(given)] if isinstance(given, (str, int, float)) else [*given]
         words += [f"{OPTIONS[name]}={word}" for word in ([",".join(each)] if name in JOINED else each)]
     return words

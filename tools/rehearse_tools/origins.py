@@ -7,7 +7,7 @@ only one of them is under way, or several of one message, or where all take equa
 from __future__ import annotations
 
 import re
-from collections import deque
+from collections import defaultdict, deque
 from dataclasses import dataclass
 from typing import Generic, NamedTuple, TypeVar
 
@@ -111,14 +111,10 @@ class Forwards(Generic[Known]):
     """What is known of each forward, which its arrival gets. `edges` has those under way by consumer and queue."""
 
     def __init__(self) -> None:
-        self.edges: dict[tuple[str, str], Edge[Known]] = {}
+        self.edges: defaultdict[tuple[str, str], Edge[Known]] = defaultdict(Edge)
 
     def sent(self, at: int, head: Head, to: str, known: Known) -> None:
-        edge = head.agent, to
-        found = self.edges.get(edge)
-        if found is None:
-            found = self.edges[edge] = Edge()
-        found.sent(at, known)
+        self.edges[head.agent, to].sent(at, known)
 
     def arrived(self, at: int, head: Head) -> Arrival[Known] | None:
         """The forward that a row is the arrival of; None where none of its consumer is under way to its queue."""

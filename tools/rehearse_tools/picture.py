@@ -51,12 +51,12 @@ from argparse import Namespace
 from collections.abc import Callable, Iterable, Sequence
 from typing import Any
 
-from .console import Fault, Parser, check_library, check_output, check_title, library, note, print_text, write_bytes
+from .console import Fault, Parser, check_library, check_output, check_title, note, print_text, refuse, write_bytes
 from .curves import sweep_picture
 from .drawing import (ALARM, CAPTION, COLOURS, FOOT, FORMATS, GREY, LEFT, LINE, RIGHT, Sheet, bytes_of, head_of,
                       letters_without_font, ticks_of)
 from .histories import (PLACES, Course, Histories, History, ages_are_spread, ages_in, copies_levels, counts_in,
-                        course_of, edges, levels, oldest)
+                        course_of, edges, levels, numpy, oldest)
 from .logs import Log, tell_open
 from .requirements import Requirement
 from .scenarios import scenario_at
@@ -111,7 +111,6 @@ class Panel:
 
 def draw_course(axes: Any, course: Course, columns: int, colour: str, thickness: float) -> None:
     """Draws a line; if it changes too often for that, its mean over a paler extent."""
-    numpy = library("numpy", "python3-numpy")
     if len(course.firsts) <= columns:
         times, numbers = course.corners()
         # what stays at zero is not drawn, so that lines on one another do not mix there
@@ -167,7 +166,6 @@ def copies_panel(queue: History, start: int, end: int, columns: int) -> Panel | 
 
 
 def age_panel(queue: History, bounds: Any, requirements: Sequence[Requirement]) -> Panel | str:
-    numpy = library("numpy", "python3-numpy")
     steps = dict(zip(("middle", "95 %", "greatest"), ages_in(queue, bounds)))
     if numpy.isnan(steps["greatest"]).all():
         return "no message was deleted"
@@ -197,7 +195,6 @@ def oldest_panel(queue: History, start: int, end: int, columns: int) -> Panel | 
 
 
 def count_panel(queue: History, bounds: Any) -> Panel | str:
-    numpy = library("numpy", "python3-numpy")
     counts = {"redriven": counts_in(queue.redrives, bounds), "expired": counts_in(queue.expiries, bounds)}
     if not any(found.any() for found in counts.values()):
         return "none was redriven or expired"
@@ -320,21 +317,20 @@ def options_of(words: Sequence[str]) -> Namespace:
                                   numbers={"--width": 1000, "--height": None})
     parser.add_argument("log", metavar="LOG")
     options = parser.parse_args(words)
-    if not WIDTH_LEAST <= options.width <= WIDTH_MOST:
-        raise Fault(f"a width of {options.width} will not do: it is {WIDTH_LEAST} to {WIDTH_MOST}")
-    if options.height is not None and not options.height <= HEIGHT_MOST:
-        raise Fault(f"a height of {options.height} is too great: {HEIGHT_MOST} is the most")
+    refuse(not WIDTH_LEAST <= options.width <= WIDTH_MOST,
+           f"a width of {options.width} will not do: it is {WIDTH_LEAST} to {WIDTH_MOST}")
+    refuse(options.height is not None and not options.height <= HEIGHT_MOST,
+           f"a height of {options.height} is too great: {HEIGHT_MOST} is the most")
     ending = os.path.splitext(options.output)[1].lower() if options.output else ".svg"
-    if ending not in FORMATS:
-        raise Fault(f"{options.output} ends in none of {', '.join(FORMATS)}")
+    refuse(ending not in FORMATS, f"{options.output} ends in none of {', '.join(FORMATS)}")
     options.kind = FORMATS[ending]
     options.first, options.last = window_of(options.first, options.last)
     check_title(options.title)
     of_logs = options.rest, options.queue or None, options.first, options.last, options.scenario
-    if options.sweep and any(option is not None for option in of_logs):
-        raise Fault("--rest, --queue, --from, --to and --scenario go with a LOG, not with --sweep")
-    if not options.sweep and (options.column or options.setting is not None):
-        raise Fault("--column and --setting go with --sweep")
+    refuse(options.sweep and any(option is not None for option in of_logs),
+           "--rest, --queue, --from, --to and --scenario go with a LOG, not with --sweep")
+    refuse(not options.sweep and (options.column or options.setting is not None),
+           "--column and --setting go with --sweep")
     return options
 
 
@@ -350,13 +346,11 @@ def log_picture(options: Namespace) -> Any:
     quiet = [name for name in histories.known or () if name not in histories.queues]
     if quiet and not options.queue:
         told += f"{', ' if told else ''}no message came to {named(quiet)}"
-    if not 0 <= start < end:
-        raise Fault(f"there is no time from {start} to {end} ms")
+    refuse(not 0 <= start < end, f"there is no time from {start} to {end} ms")
     queues, left_out = histories.chosen(options.queue, QUEUES_MOST)
     requirements = [Requirement(text) for text in options.require]
     for one in requirements:
-        if not any(one.is_of(queue.name) for queue in queues):
-            raise Fault(f"{one.text}: no queue {one.queue} is drawn")
+        refuse(not any(one.is_of(queue.name) for queue in queues), f"{one.text}: no queue {one.queue} is drawn")
     parts = [Part(queue, start, end, options.width, requirements) for queue in queues]
     lost = {queue.name: len(queue.expiries) for queue in histories.queues.values() if queue.expiries}
     titles = (options.title or "Queues over time", ", ".join(text for text in (told, left_out) if text),

@@ -299,23 +299,26 @@ class Plan:
                            f"refers" if receives else
                            f"DEFAULT: max_receives of {RECEIVES}, as the plan does not tell it before it is applied")
 
-    def queue_of(self, place: str, argument: str, value: Any) -> Found | None:
-        """The one queue that an argument of a resource names, by its value if that is known."""
+    def queue_of(self, place: str, argument: str, values: dict[str, Any], note: str) -> Found | None:
+        """The one queue that an argument of a resource names, by its value if that is known; if the plan does not tell
+        it, that is noted."""
+        value = values.get(argument)
         if isinstance(value, str) and value:
             found = self.of_name(last_name(value))
         else:
             scope = self.scope_of(place)
             found = self.referred(scope, table(scope.owner, "expressions", argument))
+        if len(found) != 1:
+            self.wiring.notes.append(note)
         return self.queues[found.pop()] if len(found) == 1 else None
 
     def take_policy(self, place: str, values: dict[str, Any]) -> None:
         """Reads an aws_sqs_queue_redrive_policy."""
-        queue = self.queue_of(place, "queue_url", values.get("queue_url"))
-        if queue is None:
-            self.wiring.notes.append(f"DEFAULT: no dead-letter queue by {place}, as the plan does not tell whose it is")
-            return
-        queue.set("RedrivePolicy", values.get("redrive_policy"))
-        self.complete(queue, place)
+        queue = self.queue_of(place, "queue_url", values,
+                              f"DEFAULT: no dead-letter queue by {place}, as the plan does not tell whose it is")
+        if queue:
+            queue.set("RedrivePolicy", values.get("redrive_policy"))
+            self.complete(queue, place)
 
     def label_of(self, place: str, argument: str, value: Any) -> str:
         """What a function or topic is called: its name if that is known, else that of its resource."""
@@ -336,9 +339,9 @@ class Plan:
 
     def take_mapping(self, place: str, values: dict[str, Any]) -> None:
         """Reads an aws_lambda_event_source_mapping; those of streams and of other queues are left out."""
-        queue = self.queue_of(place, "event_source_arn", values.get("event_source_arn"))
+        queue = self.queue_of(place, "event_source_arn", values,
+                              f"{place} is left out: the plan does not tell which of its queues it takes from")
         if queue is None:
-            self.wiring.notes.append(f"{place} is left out: the plan does not tell which of its queues it takes from")
             return
         scaling = tables(values, "scaling_config")
         self.wiring.mappings.append(Mapping(
@@ -353,9 +356,9 @@ class Plan:
         """Reads an aws_sns_topic_subscription of a queue."""
         if values.get("protocol") != "sqs":
             return
-        queue = self.queue_of(place, "endpoint", values.get("endpoint"))
+        queue = self.queue_of(place, "endpoint", values,
+                              f"{place} is left out: the plan does not tell which of its queues it sends to")
         if queue is None:
-            self.wiring.notes.append(f"{place} is left out: the plan does not tell which of its queues it sends to")
             return
         topic = values.get("topic_arn")
         self.wiring.subscriptions.append(Subscription(

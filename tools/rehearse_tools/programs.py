@@ -7,7 +7,7 @@ import subprocess
 import sys
 from argparse import Namespace
 
-from .console import TOOLS, Fault, read_bytes
+from .console import TOOLS, Fault, read_bytes, refuse
 from .starting import started
 
 TOP = os.path.dirname(TOOLS)
@@ -24,8 +24,7 @@ def run_by_wrapper() -> str:
     asked = subprocess.run([WRAPPER, "--where"], stdin=subprocess.DEVNULL, capture_output=True, text=True,
                            env={**os.environ, "SQS_REHEARSE_BUILD": "never"})
     told = asked.stderr.strip().removeprefix("sqs_rehearse: ")
-    if asked.returncode:
-        raise Fault(told)
+    refuse(asked.returncode, told)
     if told:
         print(asked.stderr, end="", file=sys.stderr)
     return asked.stdout.removesuffix("\n")
@@ -50,16 +49,14 @@ def program_of(given: str | None) -> str:
             runs = process.wait() == 0
     except OSError:
         runs = False
-    if not runs:
-        raise Fault(f"{given or program} does not run")
+    refuse(not runs, f"{given or program} does not run")
     return found
 
 
 def program_itself(given: str | None) -> str:
     """The path of the program, which is no script."""
     found = program_of(given)
-    if not read_bytes(found).startswith(b"\x7fELF"):
-        raise Fault(f"{found} is a script, and not the program itself")
+    refuse(not read_bytes(found).startswith(b"\x7fELF"), f"{found} is a script, and not the program itself")
     return found
 
 

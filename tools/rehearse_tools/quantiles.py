@@ -35,7 +35,7 @@ from fractions import Fraction
 from statistics import NormalDist
 from typing import NamedTuple
 
-from .console import Fault, Parser, print_text, shown
+from .console import Fault, Parser, print_text, refuse, shown
 from .records import PLAIN_NUMBER, column_of, records_in
 from .scenarios import text_of_value
 
@@ -107,8 +107,7 @@ def times_in(path: str, column: str | None) -> list[float]:
     texts = [",".join(record) if place is None else "".join(record[place:place + 1]) for record in records]
     times = [time_of(text.strip(), f"{path}: record {number}")
              for number, text in enumerate(texts, 1) if place is None or number > 1]
-    if not times:
-        raise Fault(f"{path} has no times")
+    refuse(not times, f"{path} has no times")
     return sorted(times)
 
 
@@ -356,17 +355,15 @@ def of_options(options: Namespace, quantiles: dict[str, float]) -> tuple[Times, 
     mean, most = (None if text is None else time_of(text, f"--{name}")
                   for name, text in (("mean", options.mean), ("max", options.max)))
     if options.file is not None:
-        if quantiles or mean or most:
-            raise Fault("a FILE stands without --pN, --mean and --max (--help tells the usage)")
+        refuse(quantiles or mean or most, "a FILE stands without --pN, --mean and --max (--help tells the usage)")
         times = times_in(options.file, options.column)
         path = "standard input" if options.file == "-" else shown(options.file)
         return of_file(times), f"{len(times):,} of {path}"
-    if len(quantiles) + (mean is not None) < 2 or not quantiles:
-        raise Fault("it takes a FILE, or two of --pN, or one and --mean (--help tells the usage)")
+    refuse(len(quantiles) + (mean is not None) < 2 or not quantiles,
+           "it takes a FILE, or two of --pN, or one and --mean (--help tells the usage)")
     known = [*((f"--p{number}", time) for number, time in quantiles.items()), *([("--max", most)] if most else [])]
     for (name, low), (other, high) in zip(known, known[1:]):
-        if high < low:
-            raise Fault(f"{other} of {high:.15g} is less than {name} of {low:.15g}")
+        refuse(high < low, f"{other} of {high:.15g} is less than {name} of {low:.15g}")
     law = law_of(quantiles, mean, int(most or MOST))
     text = f"lognormal, by {named(quantiles)}" + (f", with a mean of {mean:.15g}" if mean else "")
     text += f", bent by {law.bend:.3f}" if abs(law.bend - 1) > 1e-4 else ""

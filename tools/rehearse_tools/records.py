@@ -6,7 +6,7 @@ import io
 import re
 from collections.abc import Sequence
 
-from .console import Fault, shown
+from .console import Fault, refuse, shown
 from .queues import read_any
 from .scripts import FIELD_LIMIT
 
@@ -19,12 +19,10 @@ def records_in(path: str) -> list[list[str]]:
         records = [record for record in csv.reader(io.StringIO(read_any(path), newline=""), strict=True) if record]
     except csv.Error as error:
         raise Fault(f"{path} is not CSV: {error}") from None
-    if not records:
-        raise Fault(f"{path} has no times")
+    refuse(not records, f"{path} has no times")
     return records
 
 
 def column_of(header: Sequence[str], name: str, path: str) -> int:
-    if name not in header:
-        raise Fault(f"{path} has no column {shown(name)}; it has {', '.join(map(shown, header))}")
+    refuse(name not in header, f"{path} has no column {shown(name)}; it has {', '.join(map(shown, header))}")
     return header.index(name)

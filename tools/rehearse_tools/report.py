@@ -37,7 +37,7 @@ from html import escape
 from typing import IO, Any, NamedTuple
 
 from .console import (Fault, Parser, check_library, check_output, check_title, command_of, library, read_bytes,
-                      read_text, shown, tell, write_text)
+                      read_text, refuse, shown, tell, write_text)
 from .drawing import ALARM, COLOURS, unit_of
 from .figures import COST, Figures
 from .histories import (PLACES, Course, Histories, History, ages_are_spread, ages_in, copies_levels, counts_in,
@@ -95,8 +95,7 @@ def judged(requirements: Iterable[Requirement], queues: Mapping[str, Queue], cou
     found = []
     for requirement in requirements:
         names = [name for name in queues if requirement.is_of(name)]
-        if not names:
-            raise Fault(f"{requirement.text}: there is no queue {requirement.queue}")
+        refuse(not names, f"{requirement.text}: there is no queue {requirement.queue}")
         for name in names:
             report = queues[name].report
             texts = ["" if report[column] is None else str(report[column]) for column in COLUMNS]

@@ -30,7 +30,7 @@ import re
 from collections.abc import Iterable, Mapping, Sequence
 from typing import NamedTuple
 
-from .console import Fault, csv_text, read_bytes, shown, write_text
+from .console import Fault, csv_text, read_bytes, refuse, shown, write_text
 
 FORMAT = ["sweep", "1"]
 SHARE = re.compile("([1-9][0-9]{0,6})/([1-9][0-9]{0,6})")
@@ -196,8 +196,7 @@ def share_and_mark(name: str) -> tuple[Share, str]:
 
 def whole_records(name: str, text: str) -> list[list[str]]:
     """The records before the end mark, which must be there and be right."""
-    if not text.startswith(",".join(FORMAT) + "\n"):
-        raise Fault(f"{name} is {'empty' if not text else 'no result of a sweep'}")
+    refuse(not text.startswith(",".join(FORMAT) + "\n"), f"{name} is {'empty' if not text else 'no result of a sweep'}")
     body, _, last = text.removesuffix("\n").rpartition("\n")
     body, end = f"{body}\n", END.fullmatch(last)
     if not end or not text.endswith("\n"):
@@ -220,11 +219,9 @@ def head_in(name: str, records: list[list[str]]) -> tuple[Head, int]:
     texts = [record[1] if len(record) == 2 else "" for record in fields]
     are_right = [*map(CHECKSUM.fullmatch, texts[:3]), *map(COUNT.fullmatch, texts[-2:-1]),
                  *map(COUNT_OR_NONE.fullmatch, texts[-1:])]
-    if len(fields) < 5 or not all(are_right):
-        raise Fault(f"{name} has no head of a sweep's result")
+    refuse(len(fields) < 5 or not all(are_right), f"{name} has no head of a sweep's result")
     head = Head(texts[0], texts[1], texts[2], settings, int(texts[-2]), int(texts[-1]), window)
-    if head.records() != fields:
-        raise Fault(f"{name} has no head of a sweep's result")
+    refuse(head.records() != fields, f"{name} has no head of a sweep's result")
     return head, place
 
 
@@ -246,8 +243,7 @@ def check_queues(name: str, variant: int, rows: Sequence[Sequence[str]], head: H
     if len({tuple(row[:width]) for row in rows}) != 1:
         raise Fault(f"{name} has different settings in the rows of variant {variant}")
     queues = [row[width + 1] for row in rows if not row[width]]
-    if len(set(queues)) != len(queues):
-        raise Fault(f"{name} has a queue of variant {variant} twice")
+    refuse(len(set(queues)) != len(queues), f"{name} has a queue of variant {variant} twice")
     if len(queues) != (head.queues if len(queues) == len(rows) else 0) or len(rows) - len(queues) > 1:
         raise Fault(f"{name} is short of a queue: variant {variant} has {len(queues)} of {head.queues}")
 
@@ -266,9 +262,8 @@ def collected(files: Iterable[tuple[str, str | Fault]], mark: str | None = None)
         except Fault as fault:
             faults.append(str(fault))
     marks = sorted({result.head.mark for result in results} if mark is None else {mark})
-    if len(marks) > 1:
-        raise Fault(f"there are results of {len(marks)} sweeps, {', '.join(marks)}, which should be one: "
-                    "--mark names it")
+    refuse(len(marks) > 1,
+           f"there are results of {len(marks)} sweeps, {', '.join(marks)}, which should be one: --mark names it")
     first: dict[int, Result] = {}
     columns, head = None, None
     for result in results:

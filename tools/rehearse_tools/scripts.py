@@ -5,7 +5,7 @@ import csv
 import difflib
 import io
 import re
-from collections.abc import Iterator, Mapping, Sequence
+from collections.abc import Iterable, Iterator, Mapping, Sequence
 
 HEADER = "at,call,body,group,id,delay,receipt,max,wait,timeout,task".split(",")
 AT_MOST = 4_294_967_295
@@ -23,6 +23,12 @@ CALLS: dict[str, tuple[tuple[str, ...], tuple[str, ...]]] = {
 RANGES = {"at": (0, AT_MOST), "delay": (0, AT_MOST), "max": (1, 10), "wait": (0, 20), "timeout": (0, AT_MOST)}
 LENGTHS = {"body": 1_024, "group": 128, "id": 128, "receipt": 100}
 FIELD_LIMIT = 1 << 25
+
+
+def nearest(word: object, words: Iterable[str]) -> str:
+    """A question that names the nearest of some words; empty if none is near."""
+    found = difflib.get_close_matches(str(word), list(words), 1, 0.6)
+    return f" Did you mean {found[0]}?" if found else ""
 
 
 def records_of(text: str) -> Iterator[tuple[int, list[str]]]:
@@ -77,9 +83,7 @@ def fault_of_fields(fields: Mapping[str, str], is_fifo: bool) -> str | None:
     """A call that there is not, a field that it does not have, or one that it lacks."""
     call = fields["call"]
     if call not in CALLS:
-        near = difflib.get_close_matches(call, CALLS, 1, 0.6)
-        return f"There is no call {call[:40] or 'without a name'}; calls are {', '.join(CALLS)}." + \
-            (f" Did you mean {near[0]}?" if near else "")
+        return f"There is no call {call[:40] or 'without a name'}; calls are {', '.join(CALLS)}.{nearest(call, CALLS)}"
     needed, may = CALLS[call]
     for field, text in fields.items():
         if field in ("at", "call") or not text:
@@ -103,9 +107,7 @@ def fault_of_values(fields: Mapping[str, str], tasks: Sequence[str]) -> str | No
         if field != "body" and not re.fullmatch("[!-~]*", fields[field]):
             return f"Its {field} has a character other than the ASCII ones without space."
     if fields["task"] and fields["task"] not in tasks:
-        near = difflib.get_close_matches(fields["task"], tasks, 1, 0.6)
-        hint = f" Did you mean {near[0]}?" if near else ""
-        return f"No task at this queue has the name {fields['task'][:80]}.{hint}"
+        return f"No task at this queue has the name {fields['task'][:80]}.{nearest(fields['task'], tasks)}"
     return None
 
 

@@ -5,7 +5,7 @@ from __future__ import annotations
 
 from collections.abc import Callable, Iterable, Sequence
 
-from .console import Fault, tell
+from .console import Fault, refuse, tell
 from .decisions import Requirements, key_of
 from .statistics import is_precise, looks
 from .units import number_of
@@ -122,5 +122,4 @@ def check_ascending(name: str, values: Sequence[str]) -> None:
         numbers = [int(value) for value in values]
     except ValueError:
         raise Fault(f"--least looks for a whole number, as {name}=1..64") from None
-    if numbers != sorted(set(numbers)):
-        raise Fault(f"the values of --least {name} do not grow")
+    refuse(numbers != sorted(set(numbers)), f"the values of --least {name} do not grow")

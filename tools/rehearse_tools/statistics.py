@@ -20,7 +20,7 @@ from functools import lru_cache
 from itertools import accumulate
 from typing import Any, NamedTuple
 
-from .console import library
+from .console import Library
 
 CONFIDENCE = 0.95
 # The fewest runs after which a stop rule may end: Law's advice for his sequential procedure.
@@ -35,6 +35,8 @@ BATCH = 5
 # The greatest skewness that is taken out: more makes intervals that are too wide.
 SKEWNESS_MOST = 2.0
 ROUNDING = 1e-12
+# The distribution functions, which take 0.15 s to read.
+special = Library("scipy.special", "python3-scipy")
 
 
 class Interval(NamedTuple):
@@ -61,11 +63,6 @@ class Difference(NamedTuple):
     probability: float | None
 
 
-def special() -> Any:
-    """The module of distribution functions. It is read at the first use, since that takes 0.15 s."""
-    return library("scipy.special", "python3-scipy")
-
-
 # Numbers of several runs
 
 def mean_of(numbers: Sequence[float]) -> float:
@@ -84,7 +81,7 @@ def half_width(numbers: Sequence[float], confidence: float = CONFIDENCE) -> floa
     runs = len(numbers)
     if runs < 2:
         return None
-    quantile = float(special().stdtrit(runs - 1, (1 + confidence) / 2))
+    quantile = float(special.stdtrit(runs - 1, (1 + confidence) / 2))
     return quantile * deviation_of(numbers) / math.sqrt(runs)
 
 
@@ -140,7 +137,7 @@ def percentile_ranks(runs: int, share: float, confidence: float = CONFIDENCE) ->
 
     Either end misses it in at most half of 1 - confidence (Conover 3.2). None if the runs are too few.
     """
-    below = [float(probability) for probability in special().bdtr(range(runs), runs, share)]
+    below = [float(probability) for probability in special.bdtr(range(runs), runs, share)]
     miss = (1 - confidence) / 2
     low = sum(probability <= miss for probability in below)
     high = next((rank for rank, probability in enumerate(below, 1) if probability >= 1 - miss), None)
@@ -167,8 +164,8 @@ def runs_for_percentile(share: float, confidence: float = CONFIDENCE) -> int:
 def share_interval(passed: int, runs: int, confidence: float = CONFIDENCE) -> Interval:
     """Clopper and Pearson's interval of the share that pass. The number of runs, at least one, was fixed before."""
     miss, failed = (1 - confidence) / 2, runs - passed
-    low = float(special().betaincinv(passed, failed + 1, miss)) if passed else 0.0
-    high = float(special().betaincinv(passed + 1, failed, 1 - miss)) if failed else 1.0
+    low = float(special.betaincinv(passed, failed + 1, miss)) if passed else 0.0
+    high = float(special.betaincinv(passed + 1, failed, 1 - miss)) if failed else 1.0
     return Interval(low, high)
 
 
@@ -302,7 +299,7 @@ def probability_of(differences: Sequence[float]) -> float | None:
     mean, deviation = mean_of(differences), deviation_of(differences)
     if deviation == 0:
         return 0.0 if mean else 1.0
-    return float(2 * special().stdtr(runs - 1, -abs(mean) / deviation * math.sqrt(runs)))
+    return float(2 * special.stdtr(runs - 1, -abs(mean) / deviation * math.sqrt(runs)))
 
 
 def holm(probabilities: Sequence[float]) -> list[float]:

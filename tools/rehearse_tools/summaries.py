@@ -7,7 +7,7 @@ from collections import Counter
 from collections.abc import Callable, Collection, Iterable, Mapping, Sequence
 from typing import Any, NamedTuple, Optional
 
-from .console import Fault, shown
+from .console import Fault, refuse, shown
 from .doors import Doors, Left
 from .logs import NAME, NUMBER, PLACES, REFUSALS, Head, Log, What, check_number
 from .replay import BadRow, Replay, copies_in, handlers_of, is_forward, replay
@@ -461,8 +461,7 @@ def read_runs(paths: Iterable[str], reading: Reading = Reading()) -> list[Run]:
             raise Fault(f"{path} has no log, and no log without its report stands before it")
         else:
             runs[-1].log.complete(log)
-        if len(runs) > 2:
-            raise Fault(f"{path} is the log of a third run: two can be told side by side")
+        refuse(len(runs) > 2, f"{path} is the log of a third run: two can be told side by side")
         if log.parts is not None:
             runs[-1].take_parts(log)
     for run in runs:
@@ -474,8 +473,7 @@ def values_of(runs: Sequence[Run], names: Iterable[str] | None) -> dict[str, Sid
     """For each queue of the runs, or each that is named, its values in each run; None if a run lacks it."""
     there = dict.fromkeys(name for run in runs for name in run.queues)
     for name in names or ():
-        if name not in there:
-            raise Fault(f"there is no queue {name}")
+        refuse(name not in there, f"there is no queue {name}")
     return {name: [{**run.queues[name].values(), **doors_in(run, name)} if name in run.queues else None for run in runs]
             for name in dict.fromkeys(names or there)}
 

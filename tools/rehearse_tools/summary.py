@@ -66,7 +66,7 @@ import os
 import sys
 from collections.abc import Mapping, Sequence
 
-from .console import BOLD, PLAIN, RED, Fault, Parser, is_terminal, print_text
+from .console import BOLD, PLAIN, RED, Parser, is_terminal, print_text, refuse
 from .logs import open_told
 from .overview import lines_of
 from .summaries import (BACKLOG, LINES, Queue, Reading, Run, Sides, Values, cell_of, cell_of_difference, difference,
@@ -184,10 +184,8 @@ def main(words: Sequence[str]) -> int:
     parser.add_argument("files", nargs="+", metavar="FILE")
     options = parser.parse_args(words)
     files = [*options.files, *([options.rest] if options.rest else [])]
-    if files.count("-") > 1:
-        raise Fault("standard input can be read once")
-    if options.backlog < 0:
-        raise Fault("--backlog is at least 0")
+    refuse(files.count("-") > 1, "standard input can be read once")
+    refuse(options.backlog < 0, "--backlog is at least 0")
     reading = Reading(*window_of(options.first, options.last), options.door, options.backlog)
     runs = read_runs(files, reading)
     queues = values_of(runs, options.queue)

@@ -104,8 +104,8 @@ import re
 from collections.abc import Callable, Iterable, Iterator, Sequence
 
 from .clusters import PROGRAM, SCRIPTS, Cluster
-from .console import (Fault, Parser, check_library, check_output, csv_text, print_text, shown, tell, write_bytes,
-                      write_text)
+from .console import (Fault, Parser, check_library, check_output, csv_text, print_text, refuse, shown, tell,
+                      write_bytes, write_text)
 from .decisions import Requirements
 from .drawing import FORMATS, bytes_of
 from .figures import COST, WINDOW
@@ -137,8 +137,7 @@ def columns_of(text: str | None) -> list[str]:
     """The columns that were asked for, all of them if none are named."""
     columns = text.split(",") if text is not None else COLUMNS
     for column in columns:
-        if column not in ALL_COLUMNS:
-            raise Fault(f"there is no column {shown(column)}; there are {', '.join(ALL_COLUMNS)}")
+        refuse(column not in ALL_COLUMNS, f"there is no column {shown(column)}; there are {', '.join(ALL_COLUMNS)}")
     return list(dict.fromkeys(columns))
 
 
@@ -169,57 +168,46 @@ def check_mode(options: argparse.Namespace) -> None:
                             or options.first or options.last or options.v3
                             or any(getattr(options, mode) for mode in MODES[:-1])):
         raise Fault("--collect reads what was run, and takes no SCENARIO, --vary, --print-jobs or --print-scenario")
-    if not options.collect and not (options.scenario and (options.vary or options.require or options.columns)):
-        raise Fault("a SCENARIO and at least one --vary, --require or --columns are needed (--help tells the usage)")
-    if options.print_scenario and (options.first or options.last):
-        raise Fault("--from and --to go with runs, and nothing is run")
+    refuse(not options.collect and not (options.scenario and (options.vary or options.require or options.columns)),
+           "a SCENARIO and at least one --vary, --require or --columns are needed (--help tells the usage)")
+    refuse(options.print_scenario and (options.first or options.last),
+           "--from and --to go with runs, and nothing is run")
     if any(getattr(options, mode) for mode in MODES[:-1]) and any(getattr(options, of) for of in OF_RUNS):
         raise Fault("--require and --spread go with runs, and nothing is run" if not options.share else
                     "a share writes all rows: --require and --spread go with --collect")
     for name, wanted in (("shares", "print_jobs"), ("rest", "print_jobs"), ("results", "share")):
-        if getattr(options, name) and not getattr(options, wanted):
-            raise Fault(f"--{name} goes with --{wanted.replace('_', '-')} (--help tells the usage)")
-    if options.mark and not (options.share or options.collect):
-        raise Fault("--mark goes with --share or --collect (--help tells the usage)")
-    if options.share and not options.results:
-        raise Fault("--share goes with --results (--help tells the usage)")
-    if options.cluster and (options.collect or any(getattr(options, mode) for mode in MODES)):
-        raise Fault("--cluster goes with runs (--help tells the usage)")
-    if options.price is not None and not 0 <= options.price <= PRICE_MOST:
-        raise Fault(f"--price is 0 to {PRICE_MOST:,}")
-    if options.window and not moment_of("--window", options.window):
-        raise Fault("--window is a time over 0")
-    if not 1 <= (options.jobs or 1) <= JOBS_MOST or options.jobs == 0:
-        raise Fault(f"--jobs is 1 to {JOBS_MOST}")
-    if options.shares is not None and not 1 <= options.shares <= SHARES_MOST:
-        raise Fault(f"--shares is 1 to {SHARES_MOST}")
+        refuse(getattr(options, name) and not getattr(options, wanted),
+               f"--{name} goes with --{wanted.replace('_', '-')} (--help tells the usage)")
+    refuse(options.mark and not (options.share or options.collect),
+           "--mark goes with --share or --collect (--help tells the usage)")
+    refuse(options.share and not options.results, "--share goes with --results (--help tells the usage)")
+    refuse(options.cluster and (options.collect or any(getattr(options, mode) for mode in MODES)),
+           "--cluster goes with runs (--help tells the usage)")
+    refuse(options.price is not None and not 0 <= options.price <= PRICE_MOST, f"--price is 0 to {PRICE_MOST:,}")
+    refuse(options.window and not moment_of("--window", options.window), "--window is a time over 0")
+    refuse(not 1 <= (options.jobs or 1) <= JOBS_MOST or options.jobs == 0, f"--jobs is 1 to {JOBS_MOST}")
+    refuse(options.shares is not None and not 1 <= options.shares <= SHARES_MOST, f"--shares is 1 to {SHARES_MOST}")
 
 
 def check_runs(options: argparse.Namespace) -> None:
     """Makes sure that what is decided over runs has runs to be decided over."""
-    if options.settling and os.path.splitext(options.settling)[1].lower() not in FORMATS:
-        raise Fault(f"{options.settling} ends in none of {', '.join(FORMATS)}")
+    refuse(options.settling and os.path.splitext(options.settling)[1].lower() not in FORMATS,
+           f"{options.settling} ends in none of {', '.join(FORMATS)}")
     for name in ("against", "until", "settling"):
-        if getattr(options, name) and not options.spread:
-            raise Fault(f"--{name} goes with --spread (--help tells the usage)")
-    if options.until and options.until != "decided" and not (PERCENT.fullmatch(options.until) and options.columns):
-        raise Fault("--until is decided, or a part as 5% of the means of --columns")
+        refuse(getattr(options, name) and not options.spread, f"--{name} goes with --spread (--help tells the usage)")
+    refuse(options.until and options.until != "decided" and not (PERCENT.fullmatch(options.until) and options.columns),
+           "--until is decided, or a part as 5% of the means of --columns")
     for name in ("least", "junit"):
-        if getattr(options, name) and not options.require:
-            raise Fault(f"--{name} goes with --require (--help tells the usage)")
-    if options.junit and options.least:
-        raise Fault("--junit says what holds in all variants, and --least tries only some")
-    if options.settling and options.least:
-        raise Fault("--settling goes with all runs of a variant, and not with --least")
-    if options.until and options.least:
-        raise Fault("--least goes on until each value is decided, and takes no --until")
-    if options.most is not None and not (options.most >= 1 and (options.until or options.least)):
-        raise Fault("--most is a number of runs from 1 on, and goes with --until or --least")
+        refuse(getattr(options, name) and not options.require, f"--{name} goes with --require (--help tells the usage)")
+    refuse(options.junit and options.least, "--junit says what holds in all variants, and --least tries only some")
+    refuse(options.settling and options.least, "--settling goes with all runs of a variant, and not with --least")
+    refuse(options.until and options.least, "--least goes on until each value is decided, and takes no --until")
+    refuse(options.most is not None and not (options.most >= 1 and (options.until or options.least)),
+           "--most is a number of runs from 1 on, and goes with --until or --least")
 
 
 def print_scenario(sweep: Sweep, output: str | None) -> None:
-    if len(sweep.settings) != 1:
-        raise Fault(f"--print-scenario prints one variant, and these are {len(sweep.settings):,}")
+    refuse(len(sweep.settings) != 1, f"--print-scenario prints one variant, and these are {len(sweep.settings):,}")
     check_output(output, sweep.inputs())
     write_text(output, sweep.text(sweep.settings.words(1)))
 
@@ -270,8 +258,7 @@ def base_of(options: argparse.Namespace) -> tuple[str, str]:
 def check_spread(settings: Settings, options: argparse.Namespace, requirements: Requirements) -> None:
     """Makes sure that what is put together, and what is set against, is varied."""
     if options.spread:
-        if not settings.tied(options.spread):
-            raise Fault(f"{options.spread} is not varied, so that nothing spreads over it")
+        refuse(not settings.tied(options.spread), f"{options.spread} is not varied, so that nothing spreads over it")
         settings.check_doubles()
         check_library("scipy", "python3-scipy")
         requirements.spread = settings.tied(options.spread)
@@ -332,8 +319,7 @@ def main_of_collect(options: argparse.Namespace, requirements: Requirements) -> 
 def extra_wanted(requirements: Requirements, options: argparse.Namespace) -> Extra:
     """What is asked for beside the report."""
     columns = [*columns_of(options.columns), *(requirement.column for requirement in requirements.all)]
-    if COST in columns and options.price is None:
-        raise Fault(f"the column {COST} needs --price, what a million requests cost")
+    refuse(COST in columns and options.price is None, f"the column {COST} needs --price, what a million requests cost")
     window = moment_of("--window", options.window)
     return extra_of(columns, WINDOW if window is None else window, options.price)
 

@@ -6,7 +6,7 @@ import re
 from typing import Any
 
 from .actors import Mapping, Subscription, Wiring
-from .console import Fault, library, shown
+from .console import Fault, library, refuse, shown
 from .found import STEPS_MOST, Found, last_name, named, number_in, table, tables, truth_in
 
 PSEUDO = {"AWS::Partition": "aws", "AWS::Region": "region", "AWS::AccountId": "000000000000", "AWS::StackName": "stack",
@@ -28,8 +28,7 @@ class Template:
 
     def __init__(self, found: dict[str, Any], parameters: dict[str, str]) -> None:
         for name in parameters:
-            if name not in table(found, "Parameters"):
-                raise Fault(f"the template has no parameter {shown(name)}")
+            refuse(name not in table(found, "Parameters"), f"the template has no parameter {shown(name)}")
         self.found, self.parameters, self.steps = found, parameters, 0
         self.queues: dict[str, Found] = {}
         self.wiring = Wiring()

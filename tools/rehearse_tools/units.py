@@ -5,7 +5,7 @@ import math
 import re
 from fractions import Fraction
 
-from .console import Fault, shown
+from .console import Fault, refuse, shown
 
 # The units of a time in milliseconds.
 UNITS = {"ms": 1, "s": 1_000, "m": 60_000, "min": 60_000, "h": 3_600_000, "d": 86_400_000}
@@ -97,6 +97,5 @@ def moment_of(option: str, text: str | None) -> int | None:
 def window_of(first: str | None, last: str | None) -> tuple[int | None, int | None]:
     """The two ends, in milliseconds, of what is counted by --from and --to."""
     begin, end = moment_of("--from", first), moment_of("--to", last)
-    if begin is not None and end is not None and begin > end:
-        raise Fault(f"--from {first} is after --to {last}")
+    refuse(begin is not None and end is not None and begin > end, f"--from {first} is after --to {last}")
     return begin, end

@@ -16,7 +16,7 @@ from concurrent.futures import Future, ThreadPoolExecutor, wait
 from contextlib import contextmanager
 from typing import Any, NamedTuple
 
-from .console import Fault, Progress, is_terminal, read_bytes, read_text, stop, take_signals, tell, write_bytes
+from .console import Fault, Progress, is_terminal, read_bytes, read_text, refuse, stop, take_signals, tell, write_bytes
 from .keys import VERSION_3
 from .programs import version_words
 from .runs import ALL_COLUMNS, COLUMNS, Ages, Counting, Ended, Engine, Extra, Ran, Take, piped, run
@@ -46,8 +46,7 @@ def values_of(text: str) -> list[str]:
         bounds = RANGE.fullmatch(match[1])
         if bounds:
             numbers = range(int(bounds[1]), int(bounds[2]) + 1, int(bounds[3] or 1))
-            if not 0 < len(numbers) <= VARIANTS_MOST:
-                raise Fault(f"{match[1]} has no values or over {VARIANTS_MOST}")
+            refuse(not 0 < len(numbers) <= VARIANTS_MOST, f"{match[1]} has no values or over {VARIANTS_MOST}")
             words += map(str, numbers)
         else:
             words.append(match[1])
@@ -73,21 +72,17 @@ class Settings:
         self.axes: list[list[str]] = []
         for kind, words in self.given:
             self.add(kind, words)
-        if len(self) > VARIANTS_MOST:
-            raise Fault(f"over {VARIANTS_MOST} variants")
+        refuse(len(self) > VARIANTS_MOST, f"over {VARIANTS_MOST} variants")
 
     def add(self, kind: str, words: str) -> None:
         path, equals, values = words.partition("=")
-        if not equals or not values:
-            raise Fault(f"{words} is no setting with values, as seed=1..20")
-        if path in self.values:
-            raise Fault(f"{path} is given twice")
+        refuse(not equals or not values, f"{words} is no setting with values, as seed=1..20")
+        refuse(path in self.values, f"{path} is given twice")
         self.values[path] = values_of(values)
         if kind == "vary":
             self.axes.append([path])
             return
-        if not self.axes:
-            raise Fault(f"--zip {words} goes with the --vary before it, and there is none")
+        refuse(not self.axes, f"--zip {words} goes with the --vary before it, and there is none")
         first = self.axes[-1][0]
         if len(self.values[path]) != len(self.values[first]):
             raise Fault(f"{path} has {len(self.values[path])} values, and {first}, with which it goes, has "
