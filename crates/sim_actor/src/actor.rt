@@ -12,6 +12,7 @@ use crate::life::{LastAct, Life, copies_by};
 use sim_clock::Refusal;
 use sim_draw::Draws;
 use sqs_model::{ActorSettings, MOST_COUNT, Role, Standing};
+use sqs_redrive::Outbound;
 use std::alloc::Global;
 use std::marker::Model;
 
@@ -71,6 +72,7 @@ impl Actor {
                 sent: 0,
                 draws: Draws::new(seed, number),
                 room: Vec::new(alloc),
+                transfer_room: Vec::new(alloc),
             },
         }
     }
@@ -108,6 +110,13 @@ impl Actor {
             },
             Role::Script(_) | Role::Producer(_) | Role::Consumer(_) => Standing::none(),
         }
+    }
+
+    /// Takes memory for the transfers that it sends next: a list that is not used any more.
+    pub fn keep_room(&mut self, room: Vec<Outbound>)
+        ensures { self.new ≡ self.old }
+    {
+        self.life.transfer_room = room;
     }
 
     /// Counts a waiting poll. At the limit of counts the actor stays as it was.

@@ -19,6 +19,7 @@ use sim_clock::Refusal;
 use sim_draw::Draws;
 use sqs_message::Receipt;
 use sqs_model::{Distribution, MOST_COUNT};
+use sqs_redrive::Outbound;
 use std::alloc::Global;
 use std::marker::Model;
 
@@ -71,6 +72,8 @@ pub struct Life {
     pub(crate) draws: Draws,
     // Where the bytes of a body are written.
     pub(crate) room: Vec<u8>,
+    // Memory for the transfers of an act; nothing is in it.
+    pub(crate) transfer_room: Vec<Outbound>,
 }
 
 impl Model for Life {

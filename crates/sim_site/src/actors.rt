@@ -21,6 +21,7 @@ use sim_actor::{Actor, FollowUp, Reply};
 use sim_clock::{Key, Refusal};
 use sim_index::{Mark, MarkedList};
 use sqs_model::{Act, Answer, Role, Standing};
+use sqs_redrive::Outbound;
 use std::alloc::{AllocError, Global};
 use std::marker::Model;
 
@@ -350,6 +351,16 @@ impl Actors {
         turn_to(&mut self.list, self.are_few, self.told, place);
         self.told = Some(place);
         answered_at(&mut self.list, place, number, now, reply)
+    }
+
+    /// Gives the actor that was called last memory for the transfers that it sends next: a list that
+    /// is not used any more.
+    pub fn keep_room(&mut self, room: Vec<Outbound>)
+        ensures { self.new ≡ self.old }
+    {
+        if let Some(place) = self.told {
+            self.list.value_mut(place).keep_room(room);
+        }
     }
 
     /// Counts one more waiting poll of the actor at `place`. Returns how many it had before.

@@ -10,6 +10,7 @@ use sqs_message::{Listed, Text};
 use sqs_model::{Forwarding, MOST_COUNT};
 use sqs_redrive::{Got, Latency, Load, Outbound};
 use std::alloc::{AllocError, Global};
+use std::mem;
 
 // The load of a forward of a message, which keeps its own.
 fn copied_load(alloc: Global, got: &Got) -> Result<Load, AllocError>
@@ -22,16 +23,24 @@ fn copied_load(alloc: Global, got: &Got) -> Result<Load, AllocError>
     })
 }
 
-// One transfer alone.
-fn alone(alloc: Global, outbound: Outbound) -> Result<Listed<Outbound>, AllocError>
+// One transfer alone, in the memory of a list that is not used any more.
+fn alone(mut room: Vec<Outbound>, outbound: Outbound) -> Result<Listed<Outbound>, AllocError>
     ensures { IfOk result (λ sent. sent ≡ outbound ∷ []) }
 {
-    let mut sent = Vec::with_capacity(alloc, 1)?;
-    sent.push(outbound)?;
-    Ok(Listed::new(sent))
+    room.clear();
+    room.push(outbound)?;
+    Ok(Listed::new(room))
 }
 
 impl Life {
+    // Takes the memory for transfers.
+    #[inline(always)]
+    fn take_room(&mut self) -> Vec<Outbound>
+        ensures { self.new ≡ self.old }
+    {
+        mem::replace(&mut self.transfer_room, Vec::new(self.alloc))
+    }
+
     // Whether it can count so many transfers more, and the words of their latencies.
     fn has_room(&self, transfers: u64, latency: Latency) -> bool
         requires { transfers ≤ 10 }
@@ -92,6 +101,7 @@ impl Life {
     /// # Errors
     ///
     /// `CountLimit` exactly if it would count past the limit, and `Memory`.
+    #[inline(always)]
     pub(crate) fn forward(
         &mut self,
         home: u32,
@@ -120,6 +130,7 @@ impl Life {
             group: got.group,
         };
         let sent = self.send_to(home, now, load, queues[0], forwarding.latency);
-        Ok(alone(self.alloc, sent)?)
+        let room = self.take_room();
+        Ok(alone(room, sent)?)
     }
 }

@@ -51,6 +51,29 @@ impl Core {
         Ok(())
     }
 
+    // An actor forwards a message to other queues. It keeps the memory of the list of one transfer,
+    // as nearly all are. The only error is `Memory`.
+    fn forward_listed(
+        &mut self,
+        handling: &mut Handling<'_>,
+        id: MessageId,
+        forwards: Listed<Outbound>,
+    ) -> Result<(), Refusal>
+        ensures same { self.new ≡ self.old }
+        ensures done { (a : Actor) → a.number ≡ handling.old.agent → Does result handling.old
+            handling.new self.old (forwards_made handling.old.key a id forwards self.old) }
+    {
+        if forwards.as_slice().len() != 1 {
+            return self.forward_all(handling, id, forwards);
+        }
+        let mut room = forwards.into_vec();
+        if let Some(only) = room.pop() {
+            self.forward(handling, id, only)?;
+        }
+        self.actors.keep_room(room);
+        Ok(())
+    }
+
     /// An actor ends the service of a message. If the service failed, this makes a row. If not, it
     /// forwards the message to other queues, if it does. The only error is `Memory`.
     #[tactic(auto, unfolding(sqs_model::specs::Acts::act_made))]
@@ -66,7 +89,7 @@ impl Core {
             (acts.Serve id receipt failed forwards) }
     {
         if !failed {
-            return self.forward_all(handling, id, forwards);
+            return self.forward_listed(handling, id, forwards);
         }
         let site = self.queue.site();
         let row = handling.row(site, RowKind::Fail, RowAnswer::Ok, Some(id), Detail::Absent);

@@ -1,4 +1,4 @@
-use Rattle.std.proofs.Common.{List, arith, false, length, rules, subst, sym, true, ◌≡◌, ◌≤◌, ℕ}
+use Rattle.std.proofs.Common.{List, arith, false, length, rules, subst, sym, true, [], ◌∷◌, ◌≡◌, ◌≤◌, ℕ}
 use Rattle.sqs_model.specs.declared.agents.ActorSettings.{ActorSettings}
 use Rattle.sqs_redrive.specs.declared.settings.Latency.{Latency}
 use Rattle.sqs_model.specs.Actor.{has_forwarded}
@@ -33,4 +33,5 @@ pub returns-clause-sent : goal.returns-clause-sent
 returns-clause-sent c =
     let few : length c.as_slice-queues.result.now ≤ 1 = omega (arith, c.if-queues-gt1.false) in
     let all = one_sent c.args.home c.args.now c.args.got c.args.forwarding.now c.as_slice-queues.result.now c.send_to-sent.result c.args.self.now c.send_to-sent.new.self c.as_slice-queues.ensures c.requires.forwarding.count.0 few c.send_to-sent.ensures.sent in
-    subst (λ sent. SendsAll c.args.home c.args.now c.args.got c.args.forwarding.now sent c.args.self.now c.send_to-sent.new.self) (sym c.in_ok-alone.ensures) all
+    subst (λ sent. SendsAll c.args.home c.args.now c.args.got c.args.forwarding.now sent c.args.self.now c.take_room-room.new.self) (sym c.in_ok-alone.ensures)
+    (subst (λ life. SendsAll c.args.home c.args.now c.args.got c.args.forwarding.now (c.send_to-sent.result ∷ []) c.args.self.now life) (sym c.take_room-room.ensures) all)
