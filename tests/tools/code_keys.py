@@ -135,10 +135,9 @@ def code_keys(file: str, function: str) -> list[Key]:
     return list(keys_in(others[function], others))
 
 
-def constant(file: str, name: str) -> int | None:
-    """A number that a file has by this name."""
-    found = re.search(rf"const {name}: u64 = ([\d_]+);", text_at(SOURCES, file))
-    return number(found[1]) if found else None
+def newest_versions() -> list[int]:
+    """The newest versions that may be read, without and with the word for it."""
+    return [int(it) for it in re.findall(r"Newest::\w+ => (\d+),", text_at(SOURCES, "draft.rt"))]
 
 
 def listed_keys(*files: str) -> set[str]:
