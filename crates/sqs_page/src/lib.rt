@@ -180,8 +180,9 @@ pub extern "C" fn sqs_page_rehearse(
 }
 
 /// Rehearses a scenario as `sqs_page_rehearse` does, with its script files, and by options:
-/// version 3 is read only if they ask for it, and figures follow the report if they ask for them. `files` has the name of each file and, behind it, the file; `lengths` has how long
-/// both are. After `NO_FILES` they do not fit together, `needed` is 0, and the room is as it was.
+/// version 3 is read only if they ask for it, and figures follow the report if they ask for them.
+/// `files` has the name of each file and, behind it, the file; `lengths` has how long both are.
+/// After `NO_FILES` they do not fit together, `needed` is 0, and the room is as it was.
 #[unsafe(no_mangle)]
 pub extern "C" fn sqs_page_rehearse_with_files(
     alloc: Global,
