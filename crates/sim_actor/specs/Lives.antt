@@ -109,10 +109,11 @@ abbrev pub act_scaling : Option (ℕ × ℕ) → Act
 act_scaling None = acts.Nothing
 act_scaling (Some (from, to)) = acts.Scale from to
 
--- the same of a scaler, by the two numbers of a change
+-- the same of a scaler, by the two numbers of a change; memory does not run out
 abbrev pub Rescales : Result (Option (ℕ × ℕ)) Refusal → Actor → Act × Actor → Type 0
-Rescales (Ok change) new model = Decides (Ok (act_scaling change)) new model
-Rescales (Err e) new model = Decides (Err e) new model
+Rescales (Ok change) new model = model ≡ (act_scaling change, new)
+Rescales (Err refusals.CountLimit) new model = most_count < greatest_count model.1
+Rescales (Err e) new model = ⊥
 
 -- the same if the definition returns only the actor
 abbrev pub Becomes : Result (Unit {0}) Refusal → Actor → Actor → Type 0

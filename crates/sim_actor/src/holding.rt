@@ -64,6 +64,7 @@ impl Holding {
     }
 
     /// The first message that is not served yet.
+    #[inline(always)]
     pub fn first(&self) -> Option<&Got>
         ensures { option_copied result ≡ first_of self.now.held }
     {

@@ -72,7 +72,7 @@ pub struct Life {
     pub(crate) draws: Draws,
     // Where the bytes of a body are written.
     pub(crate) room: Vec<u8>,
-    // Memory for the transfers of an act; nothing is in it.
+    // Memory for the transfers of an act. What is in it does not count.
     pub(crate) transfer_room: Vec<Outbound>,
 }
 

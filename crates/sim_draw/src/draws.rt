@@ -88,6 +88,7 @@ impl Draws {
     }
 
     /// Whether an event with a chance of `permille` in a thousand occurs. It always takes one word.
+    #[inline(always)]
     pub fn chance(&mut self, permille: u64) -> bool
         requires words { self.old.taken ≤ most_count }
         ensures event { result ≡ the_chance permille (next_word self.old) }

@@ -1,5 +1,5 @@
 //! Loads of transfers.
-ghost use Rattle.std.specs.Prelude.{◌≡◌, IfOk, Option};
+ghost use Rattle.std.specs.Prelude.{◌≡◌, IfOk, Option, option_copied};
 
 use sqs_message::Text;
 use sqs_redrive::Load;
@@ -43,8 +43,8 @@ fn copied_load(alloc: Global, load: &Load) -> Result<Load, AllocError>
 }
 
 /// A load with the same values, if there is one. It fails only if memory runs out.
-pub fn copied(alloc: Global, load: &Option<Load>) -> Result<Option<Load>, AllocError>
-    ensures { IfOk result (λ copy. copy ≡ load.now) }
+pub fn copied(alloc: Global, load: Option<&Load>) -> Result<Option<Load>, AllocError>
+    ensures { IfOk result (λ copy. copy ≡ option_copied load.entry) }
 {
     match load {
         None => Ok(None),

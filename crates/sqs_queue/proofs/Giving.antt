@@ -1,6 +1,7 @@
 -- The giving of a batch, one message after another, and that it is what the definitions give.
-use Rattle.std.proofs.Common.{◌≡◌, ℕ, ◌+◌, ◌<◌, Bool, true, false, List, [], ◌∷◌, ◌++◌, Option, Some, None, cond, if◌then◌else◌, length, take, drop, set, map, get_or, arith, refl, sym, ap, ◌∙◌, append_assoc}
-use Rattle.std.specs.Prelude.{All, IfSome, Ok, find, ◌==◌, ◌≢◌}
+use Rattle.std.proofs.Common.{◌≡◌, ℕ, ◌+◌, ◌<◌, Bool, true, false, List, [], ◌∷◌, ◌++◌, Option, Some, None, cond, if◌then◌else◌, length, take, drop, set, map, get_or, arith, refl, subst, sym, ap, ◌∙◌, append_assoc}
+use Rattle.std.specs.Prelude.{All, IfSome, IsSome, Ok, find, ◌==◌, ◌≢◌}
+use Rattle.std.proofs.lemmas.Bool.Decides.{nat_tests}
 use Rattle.std.proofs.lemmas.List.{drop-set-lt, take_more_set, length-set}
 use Rattle.std.proofs.lemmas.List.Elements.{All-tail, All-map}
 use Rattle.sim_clock.specs.Firsts.{changed}
@@ -100,6 +101,15 @@ can_give_rest q after now timeout left g gots e h =
           let same : numbered n after.records ≡ numbered n q.records = ap (λ (x : Queue × Option Load). numbered n x.0.records) (sym e) ∙ gives_other q now timeout g.id.number n apart in
           rw same (counted k d l);
     }
+
+-- a message leaves at once only with a timeout of 0
+pub leaves_at_once : (q next : Queue) (now timeout n : ℕ) (left : Option Load) → gives q now timeout n ≡ (next, left) → IsSome left → timeout ≡ 0
+leaves_at_once q next now timeout n left given some =
+    let taken : Queue = with_change q n (received now timeout) in
+    elim (timeout == 0) as (λ b. (timeout == 0) ≡ b → (if b then released taken n else (taken, None)) ≡ (next, left) → timeout ≡ 0) [
+      | true ↦ λ zero g. grind (arith, nat_tests)
+      | false ↦ λ later g. let none : false ≡ true = subst IsSome (sym (ap (λ (x : Queue × Option Load). x.1) g)) some in cc
+    ] refl given
 
 -- a batch given as far as a place
 pub record IsGiving (now timeout : ℕ) (whole : Queue × List Got) (count i : ℕ) (q : Queue) (gots : List Got) : Type 0 where

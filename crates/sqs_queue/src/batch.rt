@@ -9,7 +9,7 @@ use sim_clock::Refusal;
 use sqs_message::{Body, Message, MessageId, Receipt, Text};
 use sqs_messages::MessageTable;
 use sqs_model::MOST_COUNT;
-use sqs_redrive::Got;
+use sqs_redrive::{Got, LeftLoad};
 use std::alloc::Global;
 
 /// The messages that a receive gives, and the cost of choosing them.
@@ -45,7 +45,7 @@ fn told_of(site: u32, message: &Message, group: Option<Text>, body: Body) -> Got
         origin: message.origin,
         group,
         body,
-        left: None,
+        left: LeftLoad::none(),
     }
 }
 

@@ -1,7 +1,7 @@
 //! The answers of a queue.
 ghost use Rattle.sqs_redrive.specs.Received.{most_received};
 
-use crate::transfers::Load;
+use crate::left::LeftLoad;
 use sqs_message::{Body, MessageId, Origin, Receipt, Text};
 use std::marker::Model;
 
@@ -55,7 +55,7 @@ pub struct Got {
     pub body: Body,
     /// The load of a message that left for the dead-letter queue at once, which is possible with a
     /// timeout of 0.
-    pub left: Option<Load>,
+    pub left: LeftLoad,
 }
 
 /// The messages of one receive, in order. They are all in flight, so there are at most 120,000.

@@ -3,11 +3,13 @@
 #![tactic(auto)]
 
 mod answers;
+mod left;
 mod redrive;
 mod settings;
 mod transfers;
 
 pub use answers::{Batch, Deleted, Got, Rest, Returned, Sent};
+pub use left::{LeftLoad, LoadSlot};
 pub use redrive::{MoveTask, on_return};
 pub use settings::{Kind, Latency, Policy, QueueSettings, Scope, TaskSettings, TaskStatus};
 pub use transfers::{Load, Outbound, Transfer};

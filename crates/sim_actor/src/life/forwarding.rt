@@ -1,5 +1,5 @@
 //! What a consumer forwards.
-ghost use Rattle.std.specs.Prelude.{◌≡◌, ◌<◌, ◌≤◌, ◌+◌, ◌↔◌, ◌∷◌, [], IfOk, length, true};
+ghost use Rattle.std.specs.Prelude.{◌≡◌, ◌<◌, ◌≤◌, ◌+◌, ◌↔◌, [], IfOk, OnOk, length, true, vec_capacity, vec_len};
 ghost use Rattle.sqs_model.specs.Answers.{most_count};
 ghost use Rattle.sqs_model.specs.Valid.{IsForwarding, IsLatency};
 ghost use Rattle.sim_actor.specs.Lives.{Forwards, HasRoom, SendsOne, SendsAll, load_of};
@@ -23,13 +23,15 @@ fn copied_load(alloc: Global, got: &Got) -> Result<Load, AllocError>
     })
 }
 
-// One transfer alone, in the memory of a list that is not used any more.
-fn alone(mut room: Vec<Outbound>, outbound: Outbound) -> Result<Listed<Outbound>, AllocError>
-    ensures { IfOk result (λ sent. sent ≡ outbound ∷ []) }
+// No transfer, with memory for one: that of a list that is not used any more.
+#[inline(always)]
+fn emptied(mut room: Vec<Outbound>) -> Result<Vec<Outbound>, AllocError>
+    ensures none { IfOk result (λ sent. sent.items ≡ []) }
+    ensures room { IfOk result (λ sent. vec_len sent < vec_capacity sent) }
 {
     room.clear();
-    room.push(outbound)?;
-    Ok(Listed::new(room))
+    room.reserve(1)?;
+    Ok(room)
 }
 
 impl Life {
@@ -52,6 +54,7 @@ impl Life {
     }
 
     // Sends a load to a queue.
+    #[inline(always)]
     fn send_to(&mut self, home: u32, now: u64, load: Load, to: u32, latency: Latency) -> Outbound
         requires moment { now ≤ most_count }
         requires latency { IsLatency latency }
@@ -129,8 +132,9 @@ impl Life {
             body: got.body,
             group: got.group,
         };
-        let sent = self.send_to(home, now, load, queues[0], forwarding.latency);
-        let room = self.take_room();
-        Ok(alone(room, sent)?)
+        let mut sent = emptied(self.take_room())?;
+        // There is room for it, so it is made where it stays.
+        sent.push_reserved(self.send_to(home, now, load, queues[0], forwarding.latency));
+        Ok(Listed::new(sent))
     }
 }

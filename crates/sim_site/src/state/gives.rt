@@ -44,7 +44,7 @@ impl Core {
             (λ k. all_came_back k gots.now self.old) }
     {
         for i in 0..gots.len() {
-            let left = copied(self.alloc, &gots[i].left)?;
+            let left = copied(self.alloc, gots[i].left.load())?;
             self.came_back(handling, gots[i].id.number, left)?;
         }
         Ok(())

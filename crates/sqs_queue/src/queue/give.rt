@@ -13,7 +13,21 @@ use crate::batch::{Received, batch_of};
 use crate::places::received;
 use sim_clock::Refusal;
 use sqs_model::LONGEST_TIMEOUT;
-use sqs_redrive::{Got, Load};
+use sqs_redrive::{Got, LeftLoad, Load, LoadSlot};
+use std::alloc::{AllocError, Global};
+
+// The memory for what may leave at once: for each message of a receive with a timeout of 0.
+fn slots_for(alloc: Global, timeout: u64, messages: usize) -> Result<Vec<LoadSlot>, AllocError>
+    ensures { IfOk result (λ slots. timeout ≡ 0 → length slots.items ≡ messages) }
+{
+    let mut slots = Vec::new(alloc);
+    if timeout == 0 {
+        for _ in 0..messages {
+            slots.push(LoadSlot::new(alloc)?)?;
+        }
+    }
+    Ok(slots)
+}
 
 impl Queue {
     /// `ReceiveMessage`: gives at most `max` of the messages that the queue may give, and no more
@@ -54,7 +68,8 @@ impl Queue {
         }
         let most = max.min(room);
         let mut batch = self.batch(u32::from(hosts), most)?;
-        self.give_all(now, wait, &mut batch.messages);
+        let slots = slots_for(self.alloc, wait, batch.messages.len())?;
+        self.give_all(now, wait, &mut batch.messages, slots);
         Ok(batch)
     }
 
@@ -108,10 +123,11 @@ impl Queue {
     }
 
     // Gives the messages of a batch, one after another.
-    fn give_all(&mut self, now: u64, timeout: u64, batch: &mut Vec<Got>)
+    fn give_all(&mut self, now: u64, timeout: u64, batch: &mut Vec<Got>, mut slots: Vec<LoadSlot>)
         requires moment { now ≤ most_count }
         requires timeout { timeout ≤ longest_flight }
         requires given { CanBeGiven self.old batch.old.items }
+        requires slots { timeout ≡ 0 → length slots.items ≡ length batch.old.items }
         ensures given { gives_all now timeout batch.old.items self.old
             ≡ (self.new, batch.new.items) }
         ensures same_length { length batch.new.items ≡ length batch.old.items }
@@ -120,7 +136,7 @@ impl Queue {
     {
         for i in 0..batch.len() {
             let left = self.give(now, timeout, batch[i].id.number);
-            batch[i].left = left;
+            batch[i].left = LeftLoad::new(left, slots.pop());
         }
     }
 

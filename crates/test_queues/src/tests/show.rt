@@ -91,7 +91,7 @@ fn one_got(out: &mut String, got: &Got) -> Shown {
     id(out, got.id)?;
     receipt(out, got.receipt)?;
     text(out, &got.body)?;
-    match &got.left {
+    match got.left.load() {
         None => Ok(()),
         Some(load) => {
             out.push_str(" leaves as ")?;

@@ -14,7 +14,7 @@ use sqs_model::{
     ProducerSettings, Role, ScalerSettings, Scaling, ScalingStep, Serving, Standing, Stretch,
     Target, WeightedGroup,
 };
-use sqs_redrive::{Batch, Got, Latency, Load, Outbound};
+use sqs_redrive::{Batch, Got, Latency, LeftLoad, Load, Outbound};
 use std::alloc::{AllocError, Global};
 use std::fmt::Write;
 use std::process::Abort;
@@ -152,7 +152,7 @@ fn got(rt: &impl Abort, alloc: Global, number: u64, body: &str) -> Got {
         origin: Origin { site: 2, number },
         group: None,
         body: Body::new(alloc, text(rt, alloc, body)).expect(rt, "memory"),
-        left: None,
+        left: LeftLoad::none(),
     }
 }
 

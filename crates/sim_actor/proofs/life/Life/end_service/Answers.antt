@@ -1,4 +1,4 @@
-use Rattle.std.proofs.Common.{Bool, Err, Result, ap, arith, rules, ◌<◌, ◌∙◌, ◌∷◌, ◌≡◌, ◌≤◌}
+use Rattle.std.proofs.Common.{Bool, Err, ap, arith, rules, ◌∙◌, ◌∷◌, ◌≡◌, ◌≤◌}
 use Rattle.sim_clock.specs.declared.refusal.Refusal.{Refusal}
 use Rattle.sim_clock.specs.declared.refusal.Refusal.TheVariants as refusals
 use Rattle.sqs_model.specs.declared.acts.Act.{Act}

@@ -1,6 +1,7 @@
-use Rattle.std.proofs.Common.{List, arith, false, length, rules, subst, sym, true, [], ◌∷◌, ◌≡◌, ◌≤◌, ℕ}
+use Rattle.std.proofs.Common.{List, ap, arith, false, length, rules, subst, sym, true, [], ◌++◌, ◌∙◌, ◌∷◌, ◌≡◌, ◌≤◌, ℕ}
 use Rattle.sqs_model.specs.declared.agents.ActorSettings.{ActorSettings}
 use Rattle.sqs_redrive.specs.declared.settings.Latency.{Latency}
+use Rattle.sqs_redrive.specs.declared.transfers.Outbound.{Outbound}
 use Rattle.sqs_model.specs.Actor.{has_forwarded}
 use Rattle.sqs_model.specs.Answers.{most_count}
 use Rattle.sim_actor.specs.Lives.{HasRoom, Life, SendsAll, greatest_count, lived}
@@ -24,14 +25,15 @@ returns-in_err-sent-clause-sent c =
     let kept = within c.args.forwarding.now.latency _ _ _ _ c.as_slice-queues.ensures c.self.view_is (c.has_room.ensures.0 c.if-not-has_room.false) c.self.invariant.0 c.self.invariant.3 in
     search rules
 
-pub returns-in_err-alone-clause-sent : goal.returns-in_err-alone-clause-sent
-returns-in_err-alone-clause-sent c =
+pub returns-in_err-sent-2-clause-sent : goal.returns-in_err-sent-2-clause-sent
+returns-in_err-sent-2-clause-sent c =
     let kept = within c.args.forwarding.now.latency _ _ _ _ c.as_slice-queues.ensures c.self.view_is (c.has_room.ensures.0 c.if-not-has_room.false) c.self.invariant.0 c.self.invariant.3 in
     search rules
 
 pub returns-clause-sent : goal.returns-clause-sent
 returns-clause-sent c =
     let few : length c.as_slice-queues.result.now ≤ 1 = omega (arith, c.if-queues-gt1.false) in
-    let all = one_sent c.args.home c.args.now c.args.got c.args.forwarding.now c.as_slice-queues.result.now c.send_to-sent.result c.args.self.now c.send_to-sent.new.self c.as_slice-queues.ensures c.requires.forwarding.count.0 few c.send_to-sent.ensures.sent in
-    subst (λ sent. SendsAll c.args.home c.args.now c.args.got c.args.forwarding.now sent c.args.self.now c.take_room-room.new.self) (sym c.in_ok-alone.ensures)
-    (subst (λ life. SendsAll c.args.home c.args.now c.args.got c.args.forwarding.now (c.send_to-sent.result ∷ []) c.args.self.now life) (sym c.take_room-room.ensures) all)
+    let one = rw c.take_room.ensures at c.send_to.ensures.sent in
+    let all = one_sent c.args.home c.args.now c.args.got c.args.forwarding.now c.as_slice-queues.result.now c.send_to.result c.args.self.now c.send_to.new.self c.as_slice-queues.ensures c.requires.forwarding.count.0 few one in
+    let listed : c.new-2.result ≡ c.send_to.result ∷ [] = c.new-2.ensures ∙ c.push_reserved.ensures.items ∙ ap (λ (sent : List Outbound). sent ++ c.send_to.result ∷ []) c.in_ok-sent-2.ensures.none in
+    subst (λ sent. SendsAll c.args.home c.args.now c.args.got c.args.forwarding.now sent c.args.self.now c.send_to.new.self) (sym listed) all

@@ -16,7 +16,7 @@ returns-in_err-came_back c =
     let g : Got = get_or c.args.gots.now now.i d in
     let whole : Effect = all_came_back handling.key c.args.gots.now c.args.self.now in
     let rest : Effect = all_came_back handling.key (drop now.i c.args.gots.now) now.self in
-    let left : c.in_ok-left.left ≡ g.left = c.in_ok-left.ensures ∙ ap (λ (x : Got). x.left) (get_or_default c.args.gots.now now.i c.index-gots-i.result d c.loop-i-test.true) in
+    let left : c.in_ok-left.left ≡ g.left = c.in_ok-left.ensures ∙ c.load.ensures ∙ ap (λ (x : Got). x.left) (get_or_default c.args.gots.now now.i c.index-gots-i.result d c.loop-i-test.true) in
     stops_up _ _ (PassesCount whole) c.from_residual-in_err-came_back.result c.in_err-came_back.field-0.0 c.from_residual-in_err-came_back.ensures.1
     (λ h. passes_rest handling.effects.now now.handling.effects.now rest whole now.invariant.remains
     (back_one_limited handling.key c.args.gots.now now.i d now.self c.loop-i-test.true
