@@ -9,7 +9,9 @@ import { textOf } from './units.js';
  * @typedef {'sent' | 'sent_again' | 'came_by_forward' | 'came_by_redrive' | 'came_by_move' | 'forwarded_again' | 'receives'
  *   | 'empty_receives' | 'deleted' | 'failed_services' | 'forwarded' | 'dead_lettered' | 'moved_away' | 'lost_by_expiry'
  *   | 'SendMessage' | 'ReceiveMessage' | 'DeleteMessage' | 'ChangeMessageVisibility' | 'StartMessageMoveTask'
- *   | 'CancelMessageMoveTask' | 'requests' | 'refused_requests' | 'depth_greatest' | 'left' | 'left_in_flight'} Always
+ *   | 'CancelMessageMoveTask' | 'requests' | 'refused_requests' | 'copies_changed' | 'depth_greatest' | 'left'
+ *   | 'left_in_flight' | 'handled_once' | 'handled_again' | 'handled_greatest' | 'received_messages'
+ *   | 'received_greatest'} Always
  * @typedef {'depth_greatest_at_ms' | 'backlog_gone_at_ms' | 'backlog_since_ms' | 'age_p50_ms' | 'age_p95_ms'
  *   | 'age_p99_ms' | 'age_greatest_ms' | 'new_age_p50_ms' | 'new_age_p95_ms' | 'moved_age_p50_ms'
  *   | 'moved_age_p95_ms'} Sometimes

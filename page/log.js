@@ -1,15 +1,13 @@
 // @ts-check
 // The rows of a log, read from its bytes.
 //
-// A row is given on as numbers: its time, its head (queue, agent, call and answer), the number of its message, its
-// receipt as one number, where its detail begins, and where it ends. -1 stands for none.
+// A row is given on as numbers: its time, its head (queue, agent, call and answer), the number of its message, where its
+// detail begins, and where it ends. -1 stands for none.
 
 import { textOf } from './units.js';
 
 export const ZERO = 48;
-const COMMA = 44, DASH = 45, NINE = 57, QUOTE = 34, LINE_END = 10;
-// A receipt is one number: that of the message times this, and the number of its receive.
-export const RECEIVES = 2 ** 21;
+const COMMA = 44, NINE = 57, QUOTE = 34, LINE_END = 10;
 
 /** @typedef {Uint8Array | Uint32Array | Int32Array | Float64Array} Kinds */
 /**
@@ -21,7 +19,7 @@ export const RECEIVES = 2 ** 21;
 /** @typedef {Made & { from: number, length: number }} Head */
 /** @typedef {(queue: string, agent: string, call: string, answer: string) => Made} Making */
 /**
- * @typedef {(time: number, head: Head, message: number, receipt: number, from: number, to: number) => void} Taker
+ * @typedef {(time: number, head: Head, message: number, from: number, to: number) => void} Taker
  */
 
 // Numbers of one kind that grow as they are added to.
@@ -126,13 +124,6 @@ export function readRows(bytes, made) {
   };
   // the number of a message `m-Q-N`; its queue is that of the row
   const messageAt = (/** @type {number} */ from) => readNumber(from + 2) && readNumber(next + 1) ? number : -1;
-  // a receipt `r-Q-N-C` of the queue of the row, whose number in the scenario is `queue`, as one number
-  const receiptAt = (/** @type {number} */ from, /** @type {number} */ queue) => {
-    if (bytes[from] !== 114 || bytes[from + 1] !== DASH || !readNumber(from + 2) || number !== queue
-      || bytes[next] !== DASH || !readNumber(next + 1) || bytes[next] !== DASH) return -1;
-    const message = number;
-    return readNumber(next + 1) && bytes[next] === COMMA ? message * RECEIVES + number : -1;
-  };
   while (at < bytes.length && isDigit(bytes[at])) {
     starts.push(at);
     time = 0;
@@ -145,12 +136,11 @@ export function readRows(bytes, made) {
       if (byte === COMMA) commas++;
     }
     const head = heads.at(from, at, hash), message = bytes[at] === COMMA ? -1 : messageAt(at);
-    const receiptFrom = message < 0 ? at + 1 : next + 1;
-    const receipt = receiptAt(receiptFrom, head.number), detail = afterField(bytes, receiptFrom);
+    const detail = afterField(bytes, message < 0 ? at + 1 : next + 1);
     at = detail;
     while (bytes[at] !== LINE_END) at++;
     head.times?.push(time);
-    head.take(time, head, message, receipt, detail, at);
+    head.take(time, head, message, detail, at);
     at++;
   }
   return { starts: starts.whole, end: at, heads: heads.all, last: starts.length ? time : null };

@@ -1,8 +1,7 @@
 // @ts-check
-// What the rows of one queue say: what changes when, and how often its messages were handled and received. What counts
-// as handled is written in tools/summary; the tests compare the numbers.
+// What the rows of one queue say: what changes when.
 
-import { Numbers, RECEIVES } from './log.js';
+import { Numbers } from './log.js';
 
 export const VISIBLE = 0, IN_FLIGHT = 1, DELAYED = 2, NOWHERE = 3;
 // A change is four times the place that a message leaves and the place that it comes to.
@@ -14,13 +13,10 @@ export class Queue {
   constructor(name, number) {
     this.name = name;
     this.number = number;
-    // by the number of a message: when it came, its place as -1 - place or the index of its coming in `changes` if it
-    // has not moved since, its receives, how many of them were handled, and which of them deleted it
+    // by the number of a message: when it came, and its place as -1 - place or the index of its coming in `changes` if it
+    // has not moved since
     this.came = new Numbers(Uint32Array);
     this.stands = new Numbers(Int32Array);
-    this.receives = new Numbers(Uint32Array);
-    this.handled = new Numbers(Uint32Array);
-    this.deletedBy = new Numbers(Uint32Array);
     this.times = new Numbers(Uint32Array);
     this.changes = new Numbers(Uint8Array);
     this.deletedAt = new Numbers(Uint32Array);
@@ -31,13 +27,8 @@ export class Queue {
     this.oldestAt = new Numbers(Uint32Array);
     this.sinces = new Numbers(Float64Array);
     this.oldest = 0;
-    // receipts that were used, but for those that deleted a message
-    /** @type {Set<number>} */
-    this.used = new Set();
-    this.onTheirWay = this.received = this.handledOnce = this.handledMore = 0;
-    this.triesMost = this.timesHandledMost = 1;
-    // how often its scalers changed how many copies ask, and the most that one of them let ask
-    this.copiesChanged = 0;
+    this.onTheirWay = 0;
+    // the most copies that one of its scalers let ask
     /** @type {number | null} */
     this.copiesMost = null;
     /** @type {Set<string>} */
@@ -68,9 +59,6 @@ export class Queue {
     if (message !== this.stands.length) throw new Error(`message ${message} of ${this.name} cannot come in`);
     this.stands.push(this.times.length);
     this.came.push(time);
-    this.receives.push(0);
-    this.handled.push(0);
-    this.deletedBy.push(0);
     this.changed(time, ENTERED);
   }
 
@@ -87,14 +75,6 @@ export class Queue {
   }
 
   /** @param {number} time @param {number} message */
-  receivesOne(time, message) {
-    const tries = ++this.receives.items[message];
-    this.put(time, message, IN_FLIGHT);
-    if (tries === 1) this.received++;
-    else if (tries > this.triesMost) this.triesMost = tries;
-  }
-
-  /** @param {number} time @param {number} message */
   releases(time, message) {
     this.wasDelayed(message);
     this.put(time, message, VISIBLE);
@@ -103,7 +83,6 @@ export class Queue {
   // A scaler changes how many copies ask.
   /** @param {number} from @param {number} to */
   scales(from, to) {
-    this.copiesChanged++;
     this.copiesMost = Math.max(from, to, this.copiesMost ?? 0);
   }
 
@@ -123,30 +102,10 @@ export class Queue {
     return places;
   }
 
-  /** @param {number} message */
-  handles(message) {
-    const times = ++this.handled.items[message];
-    if (times === 1) this.handledOnce++;
-    if (times === 2) [this.handledOnce, this.handledMore] = [this.handledOnce - 1, this.handledMore + 1];
-    if (times > this.timesHandledMost) this.timesHandledMost = times;
-  }
-
-  /** @param {number} time @param {number} message @param {number} receipt @param {number} age */
-  deletes(time, message, receipt, age) {
+  /** @param {number} time @param {number} message @param {number} age */
+  deletes(time, message, age) {
     this.ages.push(age);
     this.deletedAt.push(time);
-    this.deletedBy.items[message] = receipt % RECEIVES;
     this.leaves(time, message);
-    this.handles(message);
-  }
-
-  // A call of delete that deleted nothing: it may still be the first with its receipt, if that was given.
-  /** @param {number} receipt */
-  usesReceipt(receipt) {
-    const message = Math.floor(receipt / RECEIVES), receive = receipt % RECEIVES;
-    if (!(receive <= this.receives.items[message]) || receive === 0 || this.deletedBy.items[message] === receive
-      || this.used.has(receipt)) return;
-    this.used.add(receipt);
-    this.handles(message);
   }
 }

@@ -5,7 +5,7 @@ import { BACKLOG } from './facts.js';
 import { figuresIn } from './figures.js';
 import { Numbers, ZERO, lastLine, readRows, recordsOf } from './log.js';
 import { TOLD_ROWS } from './moments.js';
-import { Queue } from './queue.js';
+import { IN_FLIGHT, Queue } from './queue.js';
 import { fixed, textOf } from './units.js';
 
 const SLASH = '/'.charCodeAt(0);
@@ -56,8 +56,7 @@ export class Run {
    * @returns {import('./log.js').Made} */
   headOf(name, agent, call, answer) {
     const queue = this.queueOf(name), kind = `${call},${answer}`;
-    const take = TAKERS[kind] ?? (call === 'delete' ? TAKERS['delete,gone'] : () => {});
-    return { queue, number: queue.number, agent, kind, take: take.bind(this),
+    return { queue, number: queue.number, agent, kind, take: (TAKERS[kind] ?? (() => {})).bind(this),
       times: TOLD_ROWS.includes(kind) ? new Numbers(Uint32Array) : null };
   }
 
@@ -80,21 +79,21 @@ export class Run {
     names.add(textOf(this.bytes, from, to));
   }
 
-  // The numbers of a queue by the keys of `tools/summary --json`. Only how often messages were handled and received, and
-  // where they went, is counted of rows.
+  // The numbers of a queue by the keys of `tools/summary --json`. Only where messages went, and how many copies asked, is
+  // counted of rows.
   /** @param {Queue} queue */
   valuesOf(queue) {
     const figures = /** @type {QueueFigures} */ (this.figures.get(queue.name)), record = this.report[queue.number];
     const reported = (/** @type {string} */ column) => Number(record[this.columns.indexOf(column)]);
-    const handled = queue.handledOnce + queue.handledMore, isMoved = figures.moved_age_p50_ms !== null;
+    const { handled_once: once, handled_again: again, received_messages: received } = figures;
+    const isMoved = figures.moved_age_p50_ms !== null;
     return {
-      ...figures, queue: queue.name, copies_changed: queue.copiesChanged, copies_greatest: queue.copiesMost,
+      ...figures, queue: queue.name, copies_greatest: queue.copiesMost,
       came_in: figures.sent + figures.came_by_forward + figures.came_by_redrive + figures.came_by_move,
-      repeated_sends: figures.sent_again + figures.forwarded_again, handled_once: queue.handledOnce,
-      handled_more_than_once: queue.handledMore, handled_yet_not_deleted: handled - figures.deleted,
-      times_handled_greatest: handled ? queue.timesHandledMost : null,
-      tries_mean: queue.received ? Number(fixed(figures.receives / queue.received, 3)) : null,
-      tries_greatest: queue.received ? queue.triesMost : null,
+      repeated_sends: figures.sent_again + figures.forwarded_again, handled_more_than_once: again,
+      handled_yet_not_deleted: once + again - figures.deleted, times_handled_greatest: figures.handled_greatest || null,
+      tries_mean: received ? Number(fixed(figures.receives / received, 3)) : null,
+      tries_greatest: figures.received_greatest || null,
       left_visible: reported('visible'), left_delayed: reported('delayed'), on_their_way_here: queue.onTheirWay,
       // only beside those of moved messages
       new_age_p50_ms: isMoved ? figures.new_age_p50_ms : null, new_age_p95_ms: isMoved ? figures.new_age_p95_ms : null,
@@ -120,23 +119,19 @@ export class Run {
 const TAKERS = {
   'send,new'(time, head, message) { head.queue.enters(time, message); },
   'arrive,new'(time, head, message) { head.queue.enters(time, message); },
-  'receive,ok'(time, head, message) { head.queue.receivesOne(time, message); },
-  'delete,deleted'(time, head, message, receipt, from, to) {
-    head.queue.deletes(time, message, receipt, this.numberAt(from, to));
-  },
-  'delete,gone'(time, head, message, receipt) { head.queue.usesReceipt(receipt); },
-  'fail,ok'(time, head, message, receipt) { head.queue.used.add(receipt); },
+  'receive,ok'(time, head, message) { head.queue.put(time, message, IN_FLIGHT); },
+  'delete,deleted'(time, head, message, from, to) { head.queue.deletes(time, message, this.numberAt(from, to)); },
   'release,visible'(time, head, message) { head.queue.releases(time, message); },
-  'redrive,out'(time, head, message, receipt, from, to) {
+  'redrive,out'(time, head, message, from, to) {
     this.goesTo(head, from, to, head.queue.deadLetteredTo);
     head.queue.redrivenAt.push(time);
     head.queue.leaves(time, message);
   },
-  'move,out'(time, head, message, receipt, from, to) {
+  'move,out'(time, head, message, from, to) {
     this.goesTo(head, from, to, head.queue.movedTo);
     head.queue.leaves(time, message);
   },
-  'scale,ok'(time, head, message, receipt, from, to) {
+  'scale,ok'(time, head, message, from, to) {
     const slash = this.bytes.indexOf(SLASH, from);
     head.queue.scales(this.numberAt(from, slash), this.numberAt(slash + 1, to));
   },

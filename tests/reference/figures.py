@@ -14,14 +14,15 @@ COUNTED = {"send new": "sent", "send repeat": "sent_again", "arrive repeat": "fo
            "receive wait": "waits", "receive empty": "empty_receives", "delete deleted": "deleted",
            "delete kept": "deletes_by_older_receipt", "delete gone": "deletes_of_gone", "change ok": "changes",
            "fail ok": "failed_services", "forward out": "forwarded", "redrive out": "dead_lettered",
-           "move out": "moved_away", "expire expired": "lost_by_expiry", "start ok": "starts", "cancel ok": "cancels"}
+           "move out": "moved_away", "expire expired": "lost_by_expiry", "start ok": "starts", "cancel ok": "cancels",
+           "scale ok": "copies_changed"}
 # Of a call that is refused.
 REFUSED = {"send": "refused_sends", "receive": "refused_receives", "delete": "refused_deletes",
            "change": "refused_changes", "start": "refused_starts", "cancel": "refused_cancels"}
 NAMES = ["sent", "sent_again", "came_by_forward", "came_by_redrive", "came_by_move", "forwarded_again", "receives",
          "waits", "empty_receives", "deleted", "deletes_by_older_receipt", "deletes_of_gone", "changes",
          "failed_services", "forwarded", "dead_lettered", "moved_away", "lost_by_expiry", *list(REFUSED.values())[:4],
-         "starts", "cancels", "refused_starts", "refused_cancels"]
+         "starts", "cancels", "refused_starts", "refused_cancels", "copies_changed"]
 # The actions of SQS by the calls of rows.
 ACTIONS = {"send": "SendMessage", "receive": "ReceiveMessage", "delete": "DeleteMessage",
            "change": "ChangeMessageVisibility", "start": "StartMessageMoveTask", "cancel": "CancelMessageMoveTask"}
@@ -222,6 +223,26 @@ def tries(rows: Sequence[Fields], stretch: Stretch) -> Iterator[tuple[str, int]]
     yield "tries_greatest", max(found, default=0)
 
 
+def handled(rows: Sequence[Fields], stretch: Stretch) -> Iterator[tuple[str, int]]:
+    """How many messages had calls to delete with one receipt of theirs, and with several, if the service of a receipt
+    had not failed or the call deleted; and how many messages were received, and how often."""
+    receipts: dict[str, str] = {}
+    times, received = Counter[str](), Counter[str]()
+    for row in rows:
+        if row.said() == "receive ok":
+            receipts[row.receipt] = row.message
+            received[row.message] += stretch.has(row)
+        elif row.call in ("delete", "fail"):
+            message = receipts.pop(row.receipt, row.message if row.said() == "delete deleted" else "")
+            times[message] += bool(message) and row.call == "delete" and stretch.has(row)
+    numbers = [number for number in times.values() if number]
+    yield "handled_once", numbers.count(1)
+    yield "handled_again", len(numbers) - numbers.count(1)
+    yield "handled_greatest", max(numbers, default=0)
+    yield "received_messages", sum(number > 0 for number in received.values())
+    yield "received_greatest", max(received.values(), default=0)
+
+
 def of_moved(rows: Iterable[Fields], queues: Container[str]) -> Iterator[bool]:
     """Of each row of a queue whether its message came there by a move."""
     came: set[str] = set()
@@ -316,7 +337,7 @@ def figures_text(scenario: "Scenario", made: Iterable["Row"], first: int, end: i
         if name in queues:
             figures += [*peak("depth", depths(own), own, stretch), *peak("in_flight", flights(own), own, stretch),
                         *oldest(own, stretch), *left(own, queues[name], most, stretch), *tries(own, stretch),
-                        *ages_apart(own, queues, stretch, length)]
+                        *handled(own, stretch), *ages_apart(own, queues, stretch, length)]
         else:
             figures += services(own, stretch)
         lines += [["figure", name, figure, "" if value is None else value] for figure, value in figures]

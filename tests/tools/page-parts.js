@@ -52,20 +52,6 @@ export const figuresOfALog = async (values) => {
     recordsOf(bytes, 6, at, 'report')];
 };
 
-export const handledAgain = async () => {
-  const queue = new Queue('q', 0), at = receive => 1 * RECEIVES + receive;
-  queue.enters(0, 0);
-  queue.enters(0, 1);
-  for (let receive = 1; receive < 5; receive++) queue.receivesOne(receive, 1);
-  queue.used.add(at(1));
-  for (const receive of [1, 2, 2, 9, 0]) queue.usesReceipt(at(receive));
-  queue.usesReceipt(-1);
-  const before = [queue.handledOnce, queue.handledMore];
-  queue.deletes(9, 1, at(4), 9);
-  for (const receive of [4, 3, 3]) queue.usesReceipt(at(receive));
-  return [before, [queue.handledOnce, queue.handledMore], queue.timesHandledMost, queue.triesMost, queue.places];
-};
-
 export const placesOfOneMessage = async () => {
   const queue = { times: { whole: [10, 95] }, changes: { whole: [ENTERED, 4 * VISIBLE + NOWHERE] } };
   return placesOverTime(queue, 0, 100, 5).map(it => [...it.means, it.least[4], it.greatest[4]]);

@@ -17,7 +17,8 @@ from rehearse_tools.figures import Figures
 from rehearse_tools.requirements import Requirement
 from rehearse_tools.runs import ALL_COLUMNS, COLUMNS, Ages, run
 from rehearse_tools.statistics import Interval
-from rehearse_tools.summaries import ACTIONS, Reading, read_runs
+from rehearse_tools.summaries import Reading, read_runs
+from figures import ACTIONS
 
 # m-0-0 is dead-lettered to d and moved back as m-0-2, and is 2 s old there when it is deleted; m-0-1 is new, and 2.5 s
 # old. m-0-3 is left, 11 s old.

@@ -8,7 +8,7 @@ import json
 import random
 import unittest
 
-from tool import HEADER, ToolCase, log_at, needs_program, printed, text_at
+from tool import HEADER, MD5, ToolCase, log_at, needs_program, printed, text_at
 from scenario_texts import between, consumer, producer, queue_of, scenario_of, script, task
 from rehearse_tools.doors import Doors
 from rehearse_tools.logs import Rows
@@ -24,7 +24,7 @@ STEADY = scenario_of(60_000, queue_of("a"), queue_of("b"),
 
 def two_forwards(first_out: int, second_out: int, first_in: int, second_in: int) -> str:
     """Messages sent at 0 and 1 ms, forwarded by one consumer, and deleted in b at 2 s and 3 s."""
-    rows = [(0, "a,shop,send,new,m-0-0,,x"), (1, "a,shop,send,new,m-0-1,,x"),
+    rows = [(0, f"a,shop,send,new,m-0-0,,{MD5}"), (1, f"a,shop,send,new,m-0-1,,{MD5}"),
             (2, "a,w,receive,ok,m-0-0,r-0-0-1,o-0-0"), (2, "a,w,receive,ok,m-0-1,r-0-1-1,o-0-1"),
             (first_out, "a,w,forward,out,m-0-0,,b"), (first_out, "a,w,delete,deleted,m-0-0,r-0-0-1,9"),
             (second_out, "a,w,forward,out,m-0-1,,b"), (second_out, "a,w,delete,deleted,m-0-1,r-0-1-1,9"),
@@ -82,7 +82,7 @@ class ByHand(ToolCase):
         text = text.replace("300,a,w,forward", "220,a,w,receive,ok,m-0-2,r-0-2-1,o-0-2\n"
                             "230,a,w,forward,out,m-0-2,,b\n230,a,w,delete,deleted,m-0-2,r-0-2-1,225\n"
                             "250,b,w,arrive,repeat,m-1-0,,o-1-0\n300,a,w,forward")
-        text = text.replace("1,a,shop,send,new,m-0-1,,x\n", "5,a,shop,send,new,m-0-2,,x\n9,a,shop,send,new,m-0-1,,x\n")
+        text = text.replace(f"1,a,shop,send,new,m-0-1,,{MD5}\n", "5,a,shop,send,new,m-0-2,,x\n9,a,shop,send,new,m-0-1,,x\n")
         text = text.replace("2,a,w,receive", "10,a,w,receive")
         doors = doors_of(text)
         self.assertEqual((doors.open_of("b"), doors.ages_of("b")), ((0, []), {2_000: 1, 2_991: 1}))
@@ -99,6 +99,7 @@ class ByHand(ToolCase):
         text = text.replace("3000,b", rest + "3000,b")
         self.assertEqual(doors_of(text).open_of("c"), (1, ["w"]))
 
+    @needs_program
     def test_summary(self) -> None:
         path = self.write("run.log", CHAIN)
         out = self.output("summary", path, "--door", "--queue", "b")

@@ -143,11 +143,6 @@ class Parts(ToolCase):
         self.assertEqual(told, [text.index("figure"), text.index("report"), [
             ["q", {"left": 3, "age_p95_ms": None}], ["c", {"busy_ms": 5}]], [["report", "queue", "x"], ["report", "q", "1"]]])
 
-    def test_handled_again(self) -> None:
-        """A message is handled by each receipt that is given and first used to delete, unless its service failed."""
-        told = self.asked(("log", "queue"), "return handledAgain();")
-        self.assertEqual(told, [[1, 0], [0, 1], 3, 4, [1, 0, 0, 1]])
-
     def test_quoted_fields(self) -> None:
         """Behind a field and its comma begins the next one; a quote within quotes is doubled."""
         fields = {'"a""b",x': 7, '"",x': 3, '"""",x': 5, "ab,x": 3, ",x": 1, '"a,b",x': 6}

@@ -13,6 +13,7 @@ from html.parser import HTMLParser
 
 from tool import HEADERS, LIMIT, PROGRAM, ROOT, TOOLS, ToolCase, module_of, needs_program, row_of, text_at
 from scenario_texts import producer, queue_of, scenario_of
+from figures import ACTIONS, NAMES
 from rehearse_tools.console import Fault, check_library
 from rehearse_tools.histories import History
 
@@ -41,13 +42,21 @@ RUN = """at,queue,agent,call,answer,message,receipt,detail
 9000,q,q,expire,expired,m-0-1,,8000
 """ + HEADERS + """report,q,2,0,1,0,1,1,0,0,0,0,0,0,0,0,0,0,0,0,2,0,0,0,2000,2000,2000,2000,2000
 """
+FIGURES = {**dict.fromkeys([*NAMES, *ACTIONS.values(), "refused_requests", "left", "left_in_flight", "handled_again"], 0),
+           **dict.fromkeys(("handled_once", "handled_greatest", "received_messages", "received_greatest"), 1),
+           "sent": 2, "receives": 1, "deleted": 1, "lost_by_expiry": 1, "SendMessage": 2, "ReceiveMessage": 1,
+           "DeleteMessage": 1, "requests": 4, "depth_greatest": 2, "depth_greatest_at_ms": 1_000,
+           **dict.fromkeys(("age_sum_ms", "age_p50_ms", "age_p95_ms", "age_p99_ms", "age_greatest_ms", "new_age_p50_ms",
+                            "new_age_p95_ms"), 2_000),
+           **dict.fromkeys(("moved_age_p50_ms", "moved_age_p95_ms", "backlog_gone_at_ms", "backlog_since_ms"), "")}
+RUN += "figure,of,name,value\n" + "".join(f"figure,q,{name},{number}\n" for name, number in FIGURES.items())
 DEAD_LETTERS = scenario_of(1_000, queue_of("q", dead_letter="d", max_receives=1, latency_ms=10), queue_of("d"),
                         producer("p", "q", 1, 1))
 STAND_IN = f"""#!{sys.executable} -S
 import sys
 if sys.argv[1:] == ["--help"]:
     sys.exit(0)
-assert sys.argv[1:] == ["run", "--quiet", "--scripts", "."], sys.argv
+assert sys.argv[1:] == "run --quiet --scripts . --figures --from 0 --window-figures 300000".split(), sys.argv
 text = sys.stdin.read()
 if "horizon = 10000" not in text:
     sys.exit("refused 14 OutOfRange at horizon")

@@ -126,6 +126,7 @@ class Cut(ToolCase):
         run, = json.loads(out)["runs"]
         return {queue["queue"]: queue for queue in run["queues"]}
 
+    @needs_program
     def test_summary_from_a_moment_on(self) -> None:
         """After 2.5 s each of the three messages is handled once, and m-0-2 alone is received, for the first time."""
         found = self.queues(LOG + PARTS, "--from", "2501")["a"]
@@ -136,6 +137,7 @@ class Cut(ToolCase):
                   "empty_receives": 2, "left": 0}
         self.assertEqual({key: found[key] for key in wanted}, wanted)
 
+    @needs_program
     def test_summary_to_a_moment(self) -> None:
         """To 2.1 s, what happens then included, m-0-0 is visible again, and two are in flight."""
         found = self.queues(LOG + PARTS, "--to", "2.1s")["a"]
@@ -145,6 +147,7 @@ class Cut(ToolCase):
         self.assertNotIn("there_before", found)
         self.assertEqual(self.queues(LOG + PARTS, "--to", "2099")["a"]["left_in_flight"], 3)
 
+    @needs_program
     def test_summary_between_moments(self) -> None:
         path = self.write("run.txt", WAYS)
         out = self.output("summary", path, "--from", "1.5s", "--to", "1700")

@@ -10,8 +10,7 @@ import re
 import subprocess
 import sys
 
-from tool import HEADER, PROGRAM, ROOT, TOOLS, ToolCase, log_at, module_of, needs_program, open_end, printed, text_at
-from rehearse_tools import summaries
+from tool import HEADER, LIMIT, MD5, PROGRAM, ROOT, TOOLS, ToolCase, log_at, module_of, needs_program, open_end, printed, text_at
 from rehearse_tools.console import Fault
 
 # A long poll; a batch of two; m-0-0 is handled by two consumers, m-0-1 after its timeout, m-0-2 as it has left for d.
@@ -40,7 +39,12 @@ def rows_of(log):
     return list(csv.DictReader(io.StringIO(log)))
 
 
+@needs_program
 class SummaryCase(ToolCase):
+    def write(self, name, text):
+        """Writes a file, in whose rows x stands for the checksum of a body."""
+        return super().write(name, text.replace(",,x\n", f",,{MD5}\n") if isinstance(text, str) else text)
+
     def queues(self, *texts, backlog=10):
         """What --json tells of the queues of one run, by their names."""
         paths = [self.write(f"text{place}", text) for place, text in enumerate(texts)]
@@ -144,14 +148,12 @@ class Definitions(SummaryCase):
         self.assert_fault(self.run_tool("summary", "text0", "--backlog", "-1"), "summary: --backlog is at least 0")
 
     def test_nearest_ranks(self):
-        """Of the ages 1 to 1,000 s the ranks are 500, 950 and 990 s; without a report 16 leading bits are shown."""
+        """Of the ages 1 to 1,000 s the ranks are 500, 950 and 990 s, also without a report."""
         log = HEADER + "".join(f"{i},q,p,send,new,m-0-{i},,x\n" for i in range(1_000))
         log += "".join(f"2000,q,c,receive,ok,m-0-{i},r-0-{i}-1,o-0-{i}\n" for i in range(1_000))
         log += "".join(f"3000,q,c,delete,deleted,m-0-{i},r-0-{i}-1,{1_000 * (i + 1)}\n" for i in range(1_000))
-        values = self.queues(log)["q"]
-        for key, age in (("age_p50_ms", 500_000), ("age_p95_ms", 950_000), ("age_p99_ms", 990_000)):
-            self.assertEqual(values[key] >> 4, age >> 4, key)
-        self.assert_values(values, age_greatest_ms=1_000_000, depth_greatest=1_000, depth_greatest_at_ms=999,
+        self.assert_values(self.queues(log)["q"], age_p50_ms=500_000, age_p95_ms=950_000, age_p99_ms=990_000,
+                           age_greatest_ms=1_000_000, depth_greatest=1_000, depth_greatest_at_ms=999,
                            ReceiveMessage=1, receives=1_000)
 
     def test_durations(self):
@@ -196,10 +198,7 @@ class Stored(SummaryCase):
             whole = summary.values_of(summary.read_runs([path]), None)
             alone = summary.values_of(summary.read_runs([self.write("log", log)]), None)
             for name, (values,) in alone.items():
-                told = {key: leading(value) if key.startswith("age_p") else value for key, value in values.items()}
-                expected = {key: leading(value) if key.startswith("age_p") else value
-                            for key, value in whole[name][0].items()}
-                self.assertEqual(told, {**expected, **unknown}, path)
+                self.assertEqual(values, {**whole[name][0], **unknown}, path)
 
     def test_handled_by_brute_force(self):
         """Of each message the receipts are collected that were given to it and with which a deletion was called."""
@@ -214,7 +213,7 @@ class Stored(SummaryCase):
                     used.setdefault(given[key], set()).add(key)
             for queue in summary.read_runs([path])[0].queues.values():
                 numbers = [len(receipts) for (name, _), receipts in used.items() if name == queue.name]
-                told = queue.counts["handled_once"], queue.counts["handled_more_than_once"]
+                told = queue.figures["handled_once"], queue.figures["handled_again"]
                 self.assertEqual(told, (numbers.count(1), len(numbers) - numbers.count(1)), (path, queue.name))
                 more += told[1]
         self.assertGreater(more, 5)
@@ -232,14 +231,10 @@ class Stored(SummaryCase):
                         moments.setdefault(row["queue"], set()).add((row["at"], row["agent"]))
             for queue in summary.read_runs([path])[0].queues.values():
                 pending = [agent for agent, is_waiting in waiting.items() if is_waiting and agent[0] == queue.name]
-                told = queue.counts["ReceiveMessage"]
+                told = queue.values()["ReceiveMessage"]
                 self.assertEqual(told, len(moments.get(queue.name, ())) + len(pending), (path, queue.name))
                 calls += told
         self.assertGreater(calls, 1_000)
-
-
-def leading(age):
-    return None if age is None else summaries.leading(age)
 
 
 class SideBySide(SummaryCase):
@@ -297,12 +292,23 @@ class Stream(SummaryCase):
         self.assertEqual(self.run_command("summary", "-", stdin=LOG + PARTS),
                          (0, TEXT.replace("run.txt", "standard input"), ""))
 
+    def test_a_pipe_by_its_path(self):
+        """A shell gives what a command prints by such a path; it can be read once."""
+        for words, log in (["summary"], LOG + PARTS), (["life", "m-0-2"], LOG + PARTS):
+            os.mkfifo(self.path("pipe"))
+            writer = subprocess.Popen(["cp", self.write("run.txt", log), "pipe"], cwd=self.folder)
+            ran = self.run_tool(words[0], "pipe", *words[1:])
+            self.assertEqual(writer.wait(LIMIT), 0)
+            os.remove(self.path("pipe"))
+            wanted = self.run_tool(words[0], "run.txt", *words[1:])
+            self.assertEqual(ran, (0, wanted[1].replace("run.txt", "pipe"), ""))
+
     def test_output_on_standard_input(self):
         self.write("run.txt", LOG)
         self.assertEqual(self.run_command("summary", "run.txt", "-", stdin=PARTS), (0, TEXT, ""))
 
     def test_messages_that_are_gone_are_forgotten(self):
-        """A log in which five messages at most are alive, one service in ten fails, and one receipt stays open."""
+        """A log in which one message at most is alive, and one service in ten fails."""
         rows = ["0,q,p,send,new,m-0-0,,x", "0,q,c,receive,ok,m-0-0,r-0-0-1,o-0-0", "1,q,q,release,visible,m-0-0,,",
                 "2,q,c,receive,ok,m-0-0,r-0-0-2,o-0-0", "3,q,c,delete,deleted,m-0-0,r-0-0-2,3"]
         for i in range(1, 20_000):
@@ -312,15 +318,8 @@ class Stream(SummaryCase):
             rows += [f"{10 * i + 3},q,q,expire,expired,m-0-{i},,9"] * (i % 10 == 0)
         run, = summary.read_runs([self.write("log", HEADER + "\n".join(rows) + "\n")])
         queue = run.queues["q"]
-        self.assertEqual((len(queue.alive), list(queue.receipts), len(queue.polls)), (0, ["r-0-0-1"], 1))
-        self.assertEqual((queue.counts["deleted"], queue.counts["lost_by_expiry"]), (18_001, 1_999))
-
-    def test_ages_have_bounded_room(self):
-        """An age of n bits is shown by 16 of them at most: 2^15 for each n over 16, and all that are shorter."""
-        ages = {summaries.leading(age) for age in range(1 << 20)}
-        self.assertEqual(len(ages), (1 << 16) + 4 * (1 << 15))
-        self.assertEqual([summaries.leading(age) for age in (0, 65_535, 65_536, 65_537, 1_209_600_000)],
-                         [0, 65_535, 65_536, 65_536, 1_209_597_952])
+        self.assertEqual(queue.alive, {})
+        self.assert_values(queue.values(), deleted=18_001, lost_by_expiry=1_999)
 
     def test_output_that_is_closed_early(self):
         path = self.write("run.txt", LOG + PARTS)
@@ -358,6 +357,58 @@ class Terminal(SummaryCase):
         self.assertNotIn("\033", self.on_terminal(NO_COLOR="1"))
         self.assertNotIn("\033", self.on_terminal(TERM="dumb"))
         self.assertIn("\033", self.on_terminal(NO_COLOR=""))
+
+
+class Figures(SummaryCase):
+    """What of the log the program has to know to count it."""
+
+    def test_names_after_the_end(self):
+        """Rows are read to the end, also those that do not count: they name other queues, actors and tasks."""
+        rows = "20,d,boss,start,ok,,,task\n30,q,c,receive,ok,m-0-0,r-0-0-1,o-0-0\n35,q,c,forward,out,m-0-0,,e\n" \
+            "40,q,c,delete,deleted,m-0-0,r-0-0-1,40\n50,new,x,scale,ok,,,1/2\n"
+        log = self.write("log", HEADER + "0,q,p,send,new,m-0-0,,x\n" + rows)
+        queue, = json.loads(self.output("summary", log, "--json", "--to", "19"))["runs"][0]["queues"]
+        self.assert_values(queue, queue="q", sent=1, deleted=0, left=1, handled_once=0)
+        self.assertEqual(len(json.loads(self.output("summary", log, "--json"))["runs"][0]["queues"]), 4)
+
+    def test_numbers_of_queues(self):
+        """The receipts of a queue have its number, whatever the order of names; a queue without messages has none."""
+        log = self.write("log", HEADER + "0,a,c,receive,empty,,,\n0,q,p,send,new,m-3-0,,x\n5,q,c,receive,ok,m-3-0,r-3-0-1,o-3-0\n"
+                         "9,q,c,delete,deleted,m-3-0,r-3-0-1,9\n9,b,p,send,new,m-0-0,,x\n")
+        queues = {queue["queue"]: queue for queue in json.loads(self.output("summary", log, "--json"))["runs"][0]["queues"]}
+        self.assert_values(queues["q"], handled_once=1, received_messages=1, tries_greatest=1)
+        self.assertEqual(list(queues), ["b", "q", "a"])
+
+    def test_backlogs_before_the_beginning(self):
+        """They do not count, and one that is there by then does."""
+        log = self.write("log", HEADER + "0,q,p,send,new,m-0-0,,x\n5,q,c,receive,ok,m-0-0,r-0-0-1,o-0-0\n"
+                         "9,q,c,delete,deleted,m-0-0,r-0-0-1,9\n")
+        for first, gone in (("0", 5), ("5", 5), ("6", None)):
+            out = self.output("summary", log, "--json", "--backlog", "0", "--from", first)
+            self.assert_values(json.loads(out)["runs"][0]["queues"][0], backlog_gone_at_ms=gone, backlog_since_ms=None)
+
+    def test_rows_that_no_program_writes(self):
+        for row in ("1,q,p,send,new,m-0-1,,y", "1,q,p,send,new,m-0-01,,x", "01,q,p,send,new,m-0-1,,x",
+                    "1,q,p q,send,new,m-0-1,,x", "1,q,p,send,new,m-0-1,r-0-1-1,x"):
+            path = self.write("log", HEADER + f"0,q,p,send,new,m-0-0,,x\n{row}\n")
+            self.assert_fault(self.run_tool("summary", path), f"summary: {path} line 3 is no row of a log")
+
+    def test_many_names(self):
+        """As many as a run may have, and one more."""
+        for number, told in ((10_000, ""), (10_001, "refused 19 TooMany at actor")):
+            path = self.write("log", HEADER + "".join(f"{at},q,p{at},receive,empty,,,\n" for at in range(number)))
+            status, _, err = self.run_tool("summary", path)
+            self.assertEqual((status, err), (2, f"summary: {path}: {told}\n") if told else (0, ""))
+
+    def test_a_program_that_is_not_there(self):
+        path = self.write("run.txt", LOG + PARTS)
+        self.assert_fault(self.run_tool("summary", path, SQS_REHEARSE="none"), "summary: there is no program none")
+
+    def test_a_program_that_counts_less(self):
+        program = self.script("less", "#!/bin/sh\nif [ $# != 1 ]; then printf 'figure,of,name,value\\nfigure,q,sent,1\\n'; fi\n")
+        log = self.write("log", HEADER + "0,q,p,send,new,m-0-0,,x\n")
+        self.assert_fault(self.run_tool("summary", log, SQS_REHEARSE=program), "summary: the program counts no "
+                          "sent_again: it is of another version than this tool")
 
 
 class Faults(SummaryCase):

@@ -3,12 +3,12 @@ import json
 import re
 import subprocess
 
-from tool import HEADER, PROGRAM, ToolCase, ended, needs_program, open_end, ran
+from tool import HEADER, MD5, PROGRAM, ToolCase, ended, needs_program, open_end, ran
 from scenario_texts import producer, queue_of, scenario_of
 
 # Two messages come into q, of which one is deleted and the other one is left; a poll of p is empty.
-LOG = HEADER + """0,q,shop,send,new,m-0-0,,x
-5,q,shop,send,new,m-0-1,,x
+LOG = HEADER + f"""0,q,shop,send,new,m-0-0,,{MD5}
+5,q,shop,send,new,m-0-1,,{MD5}
 7,p,idle,receive,empty,,,
 10,q,w,receive,ok,m-0-0,r-0-0-1,o-0-0
 20,q,w,delete,deleted,m-0-0,r-0-0-1,20
@@ -33,6 +33,7 @@ def for_summary(text):
     return text
 
 
+@needs_program
 class Damaged(ToolCase):
     def told(self, name, words, text, by_pipe):
         """How a tool ends that is given a text by a pipe or in a file."""

@@ -93,7 +93,8 @@ class Forks:
 
 HEADER = "at,queue,agent,call,answer,message,receipt,detail\n"
 LOG_HEADER = HEADER.encode()
-SENT = b"0,q,shop,send,new,m-0-0,,900150983cd24fb0d6963f7d28e17f72\n"
+MD5 = "900150983cd24fb0d6963f7d28e17f72"
+SENT = f"0,q,shop,send,new,m-0-0,,{MD5}\n".encode()
 # Files that are no logs, by what is wrong with them.
 HOSTILE_LOGS = {
     "empty": b"", "binary": bytes(range(256)) * 9, "no line end": LOG_HEADER + SENT + b"5,q,shop",

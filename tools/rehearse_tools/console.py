@@ -21,7 +21,7 @@ import sys
 import tempfile
 import time
 from collections.abc import Callable, Container, Iterable, Mapping
-from typing import Any, NoReturn, TextIO, cast
+from typing import IO, Any, NoReturn, TextIO, cast
 
 # The signals, beside SIGINT, by which a person or a scheduler ends a tool.
 ENDING = (signal.SIGTERM, signal.SIGHUP)
@@ -308,7 +308,7 @@ class Progress:
         cls.is_shown = True
         print(f"\r{tool()}: {line}\033[K", end="", file=sys.stderr, flush=True)
 
-    def __init__(self, path: str, file: TextIO) -> None:
+    def __init__(self, path: str, file: IO[Any]) -> None:
         self.read, self.told = 0, time.monotonic()
         self.is_told = is_terminal(sys.stderr)
         status = os.fstat(file.fileno())

@@ -23,10 +23,7 @@ Examples:
 from __future__ import annotations
 
 import heapq
-import os
 import re
-import shutil
-import tempfile
 from collections import Counter
 from collections.abc import Callable, Container, Mapping, Sequence
 from typing import Optional
@@ -57,17 +54,6 @@ def duration(milliseconds: int) -> str:
     if milliseconds < 60_000:
         return f"{decimal(milliseconds / 1_000)} s"
     return clock(milliseconds)
-
-
-def keep_standard_input() -> None:
-    """Puts a file in the place of standard input that has all of it, since a log may be read twice."""
-    try:
-        with tempfile.TemporaryFile() as kept, open(0, "rb", closefd=False) as given:
-            shutil.copyfileobj(given, kept)
-            kept.seek(0)
-            os.dup2(kept.fileno(), 0)
-    except OSError as error:
-        raise Fault(f"cannot read -: {error.strerror}") from None
 
 
 class Found(Exception):
@@ -261,11 +247,8 @@ def tell_life(life: Life, finals: Mapping[str, Final] | None, last: int) -> None
 
 
 def tell_lives(log: Log, name: str) -> None:
-    if log.path == "-":
-        keep_standard_input()
+    log.keep()
     origin = origin_named(log, name)
-    if log.path == "-":
-        os.lseek(0, 0, os.SEEK_SET)
     lives = Lives(log, origin)
     tell_open(log)
     for number, life in enumerate(lives.all.values()):

@@ -2,12 +2,15 @@
 from __future__ import annotations
 
 import csv
+import os
 import re
+import stat
+import tempfile
 from collections import Counter
 from collections.abc import Callable, Iterator, Mapping, Sequence
 from itertools import chain
 from operator import length_hint
-from typing import Any, NamedTuple, TextIO
+from typing import IO, Any, NamedTuple, TextIO
 
 from .console import Fault, Progress, note, refuse, shown
 from .fact_tables import rows_of
@@ -124,10 +127,21 @@ def blocks_in(file: TextIO, path: str) -> Iterator[Block]:
         yield Block([rest], '"' in rest, is_cut=True)
 
 
-def blocks_of(path: str) -> Iterator[Block]:
-    """The lines of a file, or of standard input if the path is -."""
+def copied(file: IO[bytes], path: str) -> IO[bytes]:
+    """A file without a name that has all of an open one, which is at a path."""
+    copy, progress = tempfile.TemporaryFile(), Progress(path, file)
+    while letters := file.read(LETTERS):
+        copy.write(letters)
+        progress.look(LETTERS)
+    copy.flush()
+    Progress.clear()
+    return copy
+
+
+def blocks_of(path: str, place: str | None = None) -> Iterator[Block]:
+    """The lines of a file, or of standard input if the path is -; or of the file in whose place they are kept."""
     try:
-        with open(0 if path == "-" else path, encoding="utf-8", closefd=path != "-") as file:
+        with open(place or (0 if path == "-" else path), encoding="utf-8", closefd=bool(place) or path != "-") as file:
             progress = Progress(path, file)
             for block in blocks_in(file, path):
                 progress.look(LETTERS)
@@ -274,6 +288,7 @@ class Log:
                  rest: str | None = None) -> None:
         self.path, self.wanted, self.may_lack_rows, self.rest = path, wanted, may_lack_rows, rest
         self.line, self.at, self.has_rows = 0, 0, True
+        self.place = ""
         self.parts: dict[str, list[list[str]]] | None = None
         self.report: dict[str, Numbers] = {}
         self.counts: Counter[tuple[str, What]] = Counter()
@@ -297,9 +312,21 @@ class Log:
     def no_row(self) -> Fault:
         return Fault(f"{self.path} line {self.line} is no row of a log")
 
+    def keep(self) -> None:
+        """Makes sure that the log can be read again, also by another process: what is no regular file is copied into
+        one, and `place` is the path of an open file."""
+        try:
+            file: IO[bytes] = open(0 if self.path == "-" else self.path, "rb", closefd=self.path != "-")
+            if not stat.S_ISREG(os.fstat(file.fileno()).st_mode):
+                with file:
+                    file = copied(file, self.path)
+        except OSError as error:
+            raise Fault(f"cannot read {self.path}: {error.strerror}") from None
+        self.kept, self.place = file, f"/proc/{os.getpid()}/fd/{file.fileno()}"
+
     def blocks(self) -> Iterator[Block]:
         """The lines of the log."""
-        return blocks_of(self.path)
+        return blocks_of(self.path, self.place)
 
     def give(self, rows: Rows) -> None:
         """Gives the rows to what takes them, and reads what follows them."""

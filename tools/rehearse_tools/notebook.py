@@ -72,7 +72,7 @@ def rehearse(scenario: str, settings: Mapping[str, Value] | None = None, scripts
     """Runs a scenario with some settings, as {"seed": 7, "queue.orders.visibility_s": 60}; `scripts`, `program` and
     `v3` are as for tools/sweep. `preview` is the former name of `v3`."""
     check_tables(as_lists)
-    command = [program_of(program), "run", *version_words(v3 or preview), "--scripts", scripts]
+    command = [program_of(program), "run", "--figures", *version_words(v3 or preview), "--scripts", scripts]
     with file_of(scenario) as path, tempfile.TemporaryFile() as out:
         words = {Setting(name): word_of(value) for name, value in (settings or {}).items()}
         text = written(varied(scenario_at(path), words))
@@ -84,7 +84,7 @@ def rehearse(scenario: str, settings: Mapping[str, Value] | None = None, scripts
         parts = log.parts or {}
         finals, transfers, tasks, report = (
             table_of(HEADERS[name][1:], [record[1:] for record in parts.get(name, ())], as_lists) for name in PARTS)
-        return Rehearsal(rows, finals, transfers, tasks, report, summary(output, as_lists=as_lists))
+        return Rehearsal(rows, finals, transfers, tasks, report, summarised([output], Reading(has_figures=True), as_lists))
 
 
 def summary(paths: str | Sequence[str], first: str | None = None, last: str | None = None, door: bool = False,
@@ -93,7 +93,12 @@ def summary(paths: str | Sequence[str], first: str | None = None, last: str | No
     `door` are its --from, --to and --door. Of two runs there is a row for each, with the number of the run before it.
     """
     check_tables(as_lists)
-    runs = read_runs([paths] if isinstance(paths, str) else paths, Reading(*window_of(first, last), door))
+    return summarised([paths] if isinstance(paths, str) else paths, Reading(*window_of(first, last), door), as_lists)
+
+
+def summarised(paths: Sequence[str], reading: Reading, as_lists: bool) -> Any:
+    """The numbers of each queue of the runs in some files."""
+    runs = read_runs(paths, reading)
     for run in runs:
         tell_open(run.log)
     values = [{**({"run": number} if len(runs) > 1 else {}), **side}

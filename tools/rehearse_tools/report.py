@@ -317,9 +317,8 @@ def extra_of_all(requirements: Iterable[Requirement]) -> Extra:
 
 
 def program_words(options: Namespace) -> list[str]:
-    """The program's options: how the scenario is read, and figures if something is required of them."""
-    figures = extra_of_all(map(Requirement, options.require)).figures(options.first or 0, 0, {})
-    return [*reading_words(options), *(figures.words() if figures else ())]
+    """The program's options: how the scenario is read, and the figures of what is counted."""
+    return [*reading_words(options), *Figures(options.first or 0, 0, {}).words()]
 
 
 def counted_at(path: str, counting: Counting, figures: Figures | None) -> CountedRun:
@@ -332,7 +331,7 @@ def counted_at(path: str, counting: Counting, figures: Figures | None) -> Counte
 def page(options: Namespace, words: Sequence[str], text: str, path: str) -> tuple[str, list[Judged]]:
     """The page of a run whose log is in a file, and the requirements that were judged."""
     scenario = parsed(text, options.scenario)
-    run, = read_runs([path], Reading(options.first))
+    run, = read_runs([path], Reading(options.first, has_figures=True))
     requirements = [Requirement(requirement) for requirement in options.require]
     first, end = options.first or 0, min(scenario["horizon"], options.last or scenario["horizon"])
     counting = Counting(first, end, extra_of_all(requirements), ways_of(scenario))

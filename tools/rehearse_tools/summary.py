@@ -11,9 +11,12 @@ One of the files may be -, which is standard input. If one run has several queue
 each; those that lost messages are marked with !!. --queue leaves out all other queues.
 
 A run that was ended has no report. Its log is refused if it comes by standard input. Of a log in a file of its own the
-first line says that the end was not seen, unless REST.out is named. That also leaves two things open: which of the
-messages that are left are delayed, and the ages at 50, 95 and 99 % beyond one part in 32,768. A report that does not
-agree with the rows is refused.
+first line says that the end was not seen, unless REST.out is named. That also leaves open which of the messages that
+are left are delayed. A report that does not agree with the rows is refused.
+
+Most numbers are figures, which the program counts of the log by proof. Only the greatest number of copies, the ages of
+--door and what is on its way are counted here. The program is the one that SQS_REHEARSE in the environment names, or
+else sqs_rehearse beside this folder. Standard input is kept in a file meanwhile, since it is read twice.
 
 --from TIME, such as 90s or 1.5h, counts rows from then on, so that a warm-up is left out. Messages that are in a queue
 by then are there, with the age that they have, but what they went through before does not count. --to TIME leaves out
@@ -69,7 +72,7 @@ from collections.abc import Mapping, Sequence
 from .console import BOLD, PLAIN, RED, Parser, is_terminal, print_text, refuse
 from .logs import open_told
 from .overview import lines_of
-from .summaries import (BACKLOG, LINES, Queue, Reading, Run, Sides, Values, cell_of, cell_of_difference, difference,
+from .summaries import (BACKLOG, LINES, Reading, Run, Sides, Values, cell_of, cell_of_difference, difference,
                         is_told, lost_in, lost_told, note_of, read_runs, values_of)
 from .units import duration, window_of
 
@@ -168,7 +171,8 @@ def json_of(runs: Sequence[Run], queues: Mapping[str, Sides]) -> str:
                "rows": run.row_count, "last_row_at_ms": run.last_at, "has_report": run.has_report,
                "queues": [sides[place] for sides in queues.values() if sides[place]]}
               for place, run in enumerate(runs)]
-    numbers = [key for key in Queue("", runs[0]).values() if key not in ("queue", "dead_lettered_to", "moved_to")]
+    values: Values = next((queue.values() for run in runs for queue in run.queues.values()), {})
+    numbers = [key for key in values if key not in ("queue", "there_before", "dead_lettered_to", "moved_to")]
     differences: list[Values] = [{"queue": name, **{key: difference(sides[0], sides[-1], key) for key in numbers}}
                    for name, sides in queues.items() if len(runs) == 2]
     return json.dumps({"runs": shares, "differences": differences}, indent=2) + "\n"

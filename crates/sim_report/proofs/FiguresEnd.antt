@@ -10,7 +10,7 @@ use Rattle.sqs_formats.specs.Rows.{line, lines}
 use Rattle.sim_report.specs.declared.asked.QueueAsked.{QueueAsked}
 use Rattle.sim_report.specs.declared.asked.Wanted.{Wanted}
 use Rattle.sim_report.specs.declared.stretch.Stretch.{Stretch}
-use Rattle.sim_report.specs.Figures.{Figure, FiguresAsked, actor_figures, apart, backlog_gone, backlog_since, figure_fields, figures_header, figures_of_actor, figures_of_queue, figures_records, figures_text, in_flight, is_full, is_serving, named_ages, named_counts, named_left, named_requests, named_tries, queue_bounds, queue_figures, rows_by, rows_of_moved, rows_of_new, rows_until, rows_within, tries, tries_of}
+use Rattle.sim_report.specs.Figures.{Figure, FiguresAsked, actor_figures, apart, backlog_gone, backlog_since, figure_fields, figures_header, figures_of_actor, figures_of_queue, figures_records, figures_text, handled, in_flight, is_full, is_serving, named_ages, named_counts, named_left, named_often, named_requests, named_tries, queue_bounds, queue_figures, received, rows_by, rows_of_moved, rows_of_new, rows_until, rows_within, tries, tries_of}
 use Rattle.sim_report.specs.Figured.{ActorState, QueueState, actor_numbers, actor_records, actor_state, aged_of, ages_named, bounds_by, bounds_named, figured, figured_before, fresh_actor, fresh_queue, left_by, peaks_by, queue_ages, queue_numbers, queue_records, queue_state}
 use Rattle.sim_report.proofs.Ascending.{sum_by-ascending}
 use Rattle.sim_report.proofs.Groups.{rank-ascending}
@@ -79,7 +79,7 @@ unfolding peaks_by bounds_by
 queue-is n w asked rows =
     let s = w.stretch in
     let q = queue_state n w asked rows in
-    let sizes : List Figure → List Figure = λ left. peaks_by s q ++ (left ++ named_tries (tries_of (tries (rows_within s rows)))) in
+    let sizes : List Figure → List Figure = λ left. peaks_by s q ++ (left ++ (named_tries (tries_of (tries (rows_within s rows))) ++ named_often (handled s rows) (received s rows))) in
     let whole : List Figure → List Figure → List Figure = λ left by_age. named_counts q.counts ++ (named_requests q.polls.asked q.counts ++ (sizes left ++ (by_age ++ queue_bounds n w rows))) in
     ap (λ (left : List Figure). whole left (queue_ages w q)) (left-is n w asked rows) ∙ ap (whole (named_left asked w rows)) (ages-are n w asked rows)
 

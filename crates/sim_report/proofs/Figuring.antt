@@ -17,8 +17,8 @@ use Rattle.sim_report.specs.declared.peak.Peak.{Peak}
 use Rattle.sim_report.specs.declared.polls.Given.{Given}
 use Rattle.sim_report.specs.declared.stretch.Stretch.{Stretch}
 use Rattle.sim_report.specs.Facts.{fact_of, place_in}
-use Rattle.sim_report.specs.Figures.{FiguresAsked, age_before, begins_backlog, begins_batch, begins_receive, comes_in, count_names, count_of_row, counts_of, ends_backlog, flight_of, flying, flying_with, given_by, held_by, higher, hold_of, in_flight, is_backlog, is_full, is_moved, is_serving, is_within, last_moment, levels_from, moved_here, moved_with, no_windows, number_of, oldest_before, overlap, peak_of, rows_before, rows_by, rows_of_new, rows_until, rows_where, rows_within, there, there_by, there_with, time_from, time_while, tries, tries_of, tries_when, waiting_with, window_of, windows, windows_by, windows_with}
-use Rattle.sim_report.specs.Figured.{actor_state, actor_with, aged_if, aged_of, backlogs_of, backlogs_with, begins_by, depth_at, figured, figured_before, figures_after, figures_counting, figures_with, has_begun, last_at, lasting_of, lasting_until, lasting_with, level_of, level_with, one_in, peak_with, polls_of, polls_with, queue_changing, queue_counting, queue_judging, queue_peaking, queue_state, queue_timing, queue_with, time_to_last, tries_if, tries_with}
+use Rattle.sim_report.specs.Figures.{FiguresAsked, Often, age_before, begins_backlog, begins_batch, begins_receive, comes_in, count_names, count_of_row, counts_of, ends_backlog, flight_of, flying, flying_with, given_by, gives, handles, held_by, higher, hold_of, in_flight, is_backlog, is_full, is_moved, is_serving, is_within, last_moment, levels_from, message_of, moved_here, moved_with, never, no_windows, number_of, often, oldest_before, once_more, overlap, own_receipt, peak_of, rows_before, rows_by, rows_of_new, rows_until, rows_where, rows_within, there, there_by, there_with, time_from, time_while, tries, tries_of, tries_when, unused_with, use_of, waiting_with, window_of, windows, windows_by, windows_with}
+use Rattle.sim_report.specs.Figured.{actor_state, actor_with, aged_if, aged_of, backlogs_of, backlogs_with, begins_by, depth_at, figured, figured_before, figures_after, figures_counting, figures_with, handled_of, handled_with, has_begun, last_at, lasting_of, lasting_until, lasting_with, level_of, level_with, more_if, one_in, peak_with, polls_of, polls_with, queue_changing, queue_counting, queue_judging, queue_peaking, queue_state, queue_timing, queue_with, time_to_last, tries_if, tries_with}
 use Rattle.sim_report.specs.Running.{changed}
 use Rattle.sim_report.specs.Tally.{age_in, counted, with_age}
 use Rattle.sim_report.proofs.Groups.{filter-push, grouped, grouped-at, grouped-later}
@@ -291,6 +291,24 @@ polls-push s rows row =
     let given = fold_push (λ (g : Option Given) (r : Row). given_by (hold_of r.kind r.answer) r.agent r.key.at) None rows row in
     rw (waits, given, many-push begins_receive s rows row, many-push begins_batch s rows row) refl
 
+-- how often something happened to messages, with one more row
+often-push : (holds : List Row → Row → Bool) (number : Row → ℕ) (s : Stretch) (rows : List Row) (row : Row)
+    → often holds number s (rows ++ row ∷ []) ≡ cond (is_within s row) (more_if (holds rows row) (number row) (often holds number s rows)) (often holds number s rows)
+often-push holds number s rows row =
+    let so_far : List Row → Often = fold (λ o r. once_more (number r) o) never in
+    let chosen = rows_within s (rows_where holds [] rows) in
+    where-within so_far holds s rows row (is_within s row) (holds rows row) refl refl
+    ∙ ap (λ (o : Often). cond (is_within s row) (cond (holds rows row) o (so_far chosen)) (so_far chosen))
+    (fold_push (λ (o : Often) (r : Row). once_more (number r) o) never chosen row)
+
+-- what is handled with one more row
+handled-push : (s : Stretch) (rows : List Row) (row : Row) → handled_of s (rows ++ row ∷ []) ≡ handled_with (is_within s row) (fact_of row) (handled_of s rows)
+handled-push s rows row =
+    let unused = fold_push (λ rs (r : Row). unused_with (use_of r.kind r.answer) (own_receipt r) rs) [] rows row in
+    let handled = often-push handles (λ r. message_of (own_receipt r)) s rows row in
+    let received = often-push (λ before r. gives (use_of r.kind r.answer)) (λ r. number_of r.message) s rows row in
+    rw (unused, handled, received) refl
+
 -- how long something held up to the last row, with one more row
 time-push : (holds : List Row → Bool) (s : Stretch) (before : List Row) (at : ℕ) (rows : List Row) (row : Row)
     → time_to_last holds s before at (rows ++ row ∷ []) ≡ time_to_last holds s before at rows + cond (holds (before ++ rows)) (overlap s (last_at at rows) row.key.at) 0
@@ -348,10 +366,10 @@ tries-if None ns row = ap tries_of (append-nil ns)
 tries-if (Some n) ns row = tries-more ns n
 
 -- what tries come to with one more row
-tries-push : (rows : List Row) (row : Row) → tries_of (tries (rows ++ row ∷ [])) ≡ tries_if (tries_when (counts_in 4 row) row.receipt) (tries_of (tries rows))
+tries-push : (rows : List Row) (row : Row) → tries_of (tries (rows ++ row ∷ [])) ≡ tries_if (tries_when (counts_in 4 row) (own_receipt row)) (tries_of (tries rows))
 tries-push rows row =
-    ap tries_of (filter_map-append (λ row. tries_when (counts_in 4 row) row.receipt) rows (row ∷ []))
-    ∙ tries-if (tries_when (counts_in 4 row) row.receipt) (tries rows) row
+    ap tries_of (filter_map-append (λ row. tries_when (counts_in 4 row) (own_receipt row)) rows (row ∷ []))
+    ∙ tries-if (tries_when (counts_in 4 row) (own_receipt row)) (tries rows) row
 
 -- the messages that came by a move with one more row
 moved-push : (queues : ℕ) (rows : List Row) (row : Row) → moved_here queues (rows ++ row ∷ []) ≡ moved_with queues (moved_here queues rows) row
@@ -378,7 +396,7 @@ queue-push queues w asked rows row true e =
     let new = new-push queues w rows row true (is_moved queues rows row) e refl in
     let moved = where-ages (is_moved queues) w rows row true (is_moved queues rows row) e refl in
     let full = lasting-push (is_full asked.quota) s rows row in
-    rw (counts, tried, old, new, moved, polls-push s rows row, full, backlogs-push w.backlog s rows row, begun-push s rows row, level-push rows row, depth-push s rows row, flying-push rows row, flight-push s rows row, moved-push queues rows row, there-push rows row, oldest-push s rows row) refl
+    rw (counts, tried, old, new, moved, polls-push s rows row, handled-push s rows row, full, backlogs-push w.backlog s rows row, begun-push s rows row, level-push rows row, depth-push s rows row, flying-push rows row, flight-push s rows row, moved-push queues rows row, there-push rows row, oldest-push s rows row) refl
 queue-push queues w asked rows row false e =
     let s = w.stretch in
     let counts = within-push (counts_of queues) s rows row false e in
@@ -387,7 +405,7 @@ queue-push queues w asked rows row false e =
     let new = new-push queues w rows row false (is_moved queues rows row) e refl in
     let moved = where-ages (is_moved queues) w rows row false (is_moved queues rows row) e refl in
     let full = lasting-push (is_full asked.quota) s rows row in
-    rw (counts, tried, old, new, moved, polls-push s rows row, full, backlogs-push w.backlog s rows row, begun-push s rows row, level-push rows row, depth-push s rows row, flying-push rows row, flight-push s rows row, moved-push queues rows row, there-push rows row, oldest-push s rows row) refl
+    rw (counts, tried, old, new, moved, polls-push s rows row, handled-push s rows row, full, backlogs-push w.backlog s rows row, begun-push s rows row, level-push rows row, depth-push s rows row, flying-push rows row, flight-push s rows row, moved-push queues rows row, there-push rows row, oldest-push s rows row) refl
 
 -- an actor with one more row
 actor-push : (queues : ℕ) (s : Stretch) (name : List ℕ) (rows : List Row) (row : Row)

@@ -22,16 +22,16 @@ length-pairs (name ∷ names) (n ∷ ns) e =
     omega arith
 
 -- as many figures as names
-pub length-named : (ns : List ℕ) → length ns ≡ 26 → length (named_counts ns) ≡ 26
+pub length-named : (ns : List ℕ) → length ns ≡ 27 → length (named_counts ns) ≡ 27
 unfolding count_names
 length-named ns e = length-pairs count_names ns (omega arith)
 
 -- the figure in a place
-pub named-at : (ns : List ℕ) (i : ℕ) (d : Figure) → length ns ≡ 26 → i < 26 → get_or (named_counts ns) i d ≡ (get_or count_names i [], Some (get_or ns i 0))
+pub named-at : (ns : List ℕ) (i : ℕ) (d : Figure) → length ns ≡ 27 → i < 27 → get_or (named_counts ns) i d ≡ (get_or count_names i [], Some (get_or ns i 0))
 unfolding count_names
 named-at ns i d e h = at count_names ns i d (omega arith) (omega arith)
 
 -- as many names as are known
-pub length-names : (names : List (Bor (List ℕ))) → map (λ n. n.now) names ≡ count_names → length names ≡ 26
+pub length-names : (names : List (Bor (List ℕ))) → map (λ n. n.now) names ≡ count_names → length names ≡ 27
 unfolding count_names
 length-names names e = sym (length-map names (λ n. n.now)) ∙ ap length e

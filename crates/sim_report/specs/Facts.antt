@@ -1,9 +1,8 @@
 -- What the figures need of a row.
 use Rattle.std.specs.Prelude.{ℕ, nat_lt, Option}
 use Rattle.sqs_message.specs.declared.row.Row.{Row}
-use Rattle.sqs_formats.specs.Report.{counts_in}
 use Rattle.sim_report.specs.declared.fact.Fact.{Fact}
-use Rattle.sim_report.specs.Figures.{by_way, counted_as, flight_of, hold_of, is_own, number_of, tries_when}
+use Rattle.sim_report.specs.Figures.{by_way, counted_as, flight_of, hold_of, is_own, number_of, own_receipt, use_of}
 use Rattle.sim_report.specs.Tally.{count_of}
 
 -- what a row says
@@ -18,7 +17,8 @@ fact_of row =
       hold = hold_of row.kind row.answer;
       flight = flight_of row.kind row.answer;
       number = number_of row.message;
-      tries = tries_when (counts_in 4 row) row.receipt;
+      handling = use_of row.kind row.answer;
+      receipt = own_receipt row;
     }
 
 -- what a row that says this counts as, where so many queues are the first agents

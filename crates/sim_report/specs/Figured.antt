@@ -17,7 +17,7 @@ use Rattle.sim_report.specs.declared.polls.Polls.{Polls}
 use Rattle.sim_report.specs.declared.tries.Tries.{Tries}
 use Rattle.sim_report.specs.declared.windows.Worst.{Worst}
 use Rattle.sim_report.specs.Facts.{fact_of, place_in}
-use Rattle.sim_report.specs.Figures.{Figure, FiguresAsked, age_by, age_names, age_of_oldest, ages_at, apart, batches, begins_backlog, bound_names, bound_numbers, comes_in, count_names, counts_of, ends_backlog, figure_fields, flying, flying_with, given_by, held_after, held_with, higher, in_flight, is_asked, is_first, is_full, is_given, is_serving, last_given, last_moment, moved_by, moved_here, named_counts, named_oldest, named_peak, named_requests, named_services, named_tries, no_windows, oldest_before, overlap, peak_of, rank_in, receives_asked, rows_by, rows_of_moved, rows_of_new, rows_until, rows_where, rows_within, start_of, there, there_with, tries, tries_of, waiting, waiting_with, window_of, windows, windows_with, worst_of}
+use Rattle.sim_report.specs.Figures.{Figure, FiguresAsked, Often, age_by, age_names, age_of_oldest, ages_at, apart, batches, begins_backlog, bound_names, bound_numbers, comes_in, count_names, counts_of, ends_backlog, figure_fields, flying, flying_with, given_by, gives, handled, held_after, held_with, higher, in_flight, is_asked, is_first, is_full, is_given, is_handled, is_serving, last_given, last_moment, message_of, moved_by, moved_here, named_counts, named_oldest, named_peak, named_often, named_requests, named_services, named_tries, never, no_windows, oldest_before, once_more, overlap, peak_of, rank_in, received, receives_asked, rows_by, rows_of_moved, rows_of_new, rows_until, rows_where, rows_within, start_of, there, there_with, tries, tries_of, tries_when, unused, unused_with, waiting, waiting_with, window_of, windows, windows_with, worst_of}
 use Rattle.sim_report.specs.Running.{changed}
 use Rattle.sim_report.specs.Tally.{counted}
 
@@ -129,6 +129,33 @@ polls_with within f p =
 abbrev pub no_polls : Polls
 no_polls = record { waiting = []; given = None; asked = 0; batches = 0 }
 
+-- the unused receipts, and the messages that were handled and received in a stretch
+pub record HandledState : Type 0 where
+  pub unused : List (ℕ × ℕ)
+  pub handled : Often
+  pub received : Often
+
+abbrev pub handled_of : Stretch → List Row → HandledState
+handled_of s rows = record { unused = unused rows; handled = handled s rows; received = received s rows }
+
+-- of no rows
+abbrev pub not_handled : HandledState
+not_handled = record { unused = []; handled = never; received = never }
+
+-- with one more message, if there is one
+abbrev pub more_if : Bool → ℕ → Often → Often
+more_if more n o = cond more (once_more n o) o
+
+-- with one more fact, which lies in the stretch or not
+abbrev pub handled_with : Bool → Fact → HandledState → HandledState
+handled_with within f h =
+    let handles = is_handled f.handling f.receipt h.unused in
+    record {
+      unused = unused_with f.handling f.receipt h.unused;
+      handled = cond within (more_if handles (message_of f.receipt) h.handled) h.handled;
+      received = cond within (more_if (gives f.handling) f.number h.received) h.received;
+    }
+
 -- the ages in these rows in ascending order, and by windows of time
 abbrev pub aged_of : Wanted → List Row → Aged
 aged_of w rows = record { ages = ascending (ages rows); windows = windows w rows }
@@ -149,6 +176,7 @@ pub record QueueState : Type 0 where
   pub asked : QueueAsked
   pub counts : List ℕ
   pub polls : Polls
+  pub handled : HandledState
   pub tries : Tries
   pub ages : Aged
   pub new_ages : Aged
@@ -179,6 +207,7 @@ fresh_queue s asked =
       asked = asked;
       counts = no_counts;
       polls = no_polls;
+      handled = not_handled;
       tries = tries_of [];
       ages = no_aged;
       new_ages = no_aged;
@@ -203,6 +232,7 @@ queue_state queues w asked rows =
       asked = asked;
       counts = counts_of queues (rows_within s rows);
       polls = polls_of s rows;
+      handled = handled_of s rows;
       tries = tries_of (tries (rows_within s rows));
       ages = aged_of w (rows_within s rows);
       new_ages = aged_of w (rows_within s (rows_of_new queues rows));
@@ -229,7 +259,7 @@ queue_counting place w f q =
     let aged : Aged → Aged = aged_if (window_of w f.at) f.count.age in
     record q {
       counts = counted place q.counts;
-      tries = tries_if f.tries q.tries;
+      tries = tries_if (tries_when (is_column 4 f.count.column) f.receipt) q.tries;
       ages = aged q.ages;
       new_ages = cond (was_moved f q) q.new_ages (aged q.new_ages);
       moved_ages = cond (was_moved f q) (aged q.moved_ages) q.moved_ages;
@@ -262,11 +292,13 @@ is_full_by q = nat_le q.asked.quota (length q.flying)
 abbrev pub is_backlog_by : ℕ → QueueState → Bool
 is_backlog_by few q = nat_lt few (depth_at q.level - length q.flying)
 
--- with how long the quota was reached and how old the oldest message was before the row of a fact, and the receives
+-- with how long the quota was reached and how old the oldest message was before the row of a fact, the receives, and
+-- what is handled
 abbrev pub queue_timing : Stretch → Fact → QueueState → QueueState
 queue_timing s f q =
     record q {
       polls = polls_with (nat_le s.from f.at) f q.polls;
+      handled = handled_with (nat_le s.from f.at) f q.handled;
       full = lasting_with s (is_full_by q) f.at q.full;
       oldest = peak_with s true f.at (age_by f.flight f.at q.there) q.oldest;
     }
@@ -338,7 +370,8 @@ bounds_by w q =
 
 -- those that are neither counts nor ages
 abbrev pub queue_sizes : Wanted → QueueState → List Figure
-queue_sizes w q = peaks_by w.stretch q ++ (left_by w q ++ named_tries q.tries)
+queue_sizes w q =
+    peaks_by w.stretch q ++ (left_by w q ++ (named_tries q.tries ++ named_often q.handled.handled q.handled.received))
 
 -- the figures of a queue
 abbrev pub queue_numbers : Wanted → QueueState → List Figure

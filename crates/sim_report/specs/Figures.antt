@@ -1,12 +1,13 @@
 -- Figures: what a stretch of a run says of a queue or an actor, over the rows of its log.
-use Rattle.std.specs.Prelude.{ℕ, ◌+◌, ◌-◌, ◌*◌, ◌/◌, ◌==◌, nat_le, nat_lt, not, ◌&&◌, ◌||◌, Bool, true, false, codes, cond, max, List, [], ◌∷◌, ◌++◌, filter, filter_map, flat_map, fold, get_or, is_some, length, map, option_map, slice_get, sum, zip, Option, Some, None}
+use Rattle.std.specs.Prelude.{ℕ, ◌+◌, ◌-◌, ◌*◌, ◌/◌, ◌==◌, nat_le, nat_lt, not, ◌&&◌, ◌||◌, Bool, true, false, codes, cond, max, List, [], ◌∷◌, ◌++◌, filter, filter_map, flat_map, fold, get_or, is_some, length, map, option_map, slice_get, sum, unwrap_or, zip, Option, Some, None}
 use Rattle.std.specs.BTreeMap.{insert_entry, is_at}
 use Rattle.std.specs.BTreeSet.{insert_key}
-use Rattle.std.specs.Map.{remove_entry}
+use Rattle.std.specs.Map.{lookup, remove_entry}
 use Rattle.std.specs.Set.{remove_key}
 use Rattle.std.specs.Fmt.{decimal}
 use Rattle.std.specs.List.{enumerate_from, list_any}
-use Rattle.std.specs.Ordering.{nat_cmp}
+use Rattle.std.specs.Ordering.{nat_cmp, on, then_cmp}
+use Rattle.std.specs.declared.cmp.Ordering.{Ordering}
 use Rattle.sqs_message.specs.Ids.{read_receipt}
 use Rattle.sqs_message.specs.declared.ids.MessageId.{MessageId}
 use Rattle.sqs_message.specs.declared.ids.Receipt.{Receipt}
@@ -32,6 +33,8 @@ use Rattle.sim_report.specs.declared.windows.Windows.{Windows}
 use Rattle.sim_report.specs.declared.windows.Worst.{Worst}
 use Rattle.sim_report.specs.declared.fact.Flight.{Flight}
 use Rattle.sim_report.specs.declared.fact.Flight.TheVariants.{Begins, Leaves, Returns, Stays}
+use Rattle.sim_report.specs.declared.fact.Use.{Use}
+use Rattle.sim_report.specs.declared.fact.Use.TheVariants.{Calls, Deletes, Fails, Gives, Passes}
 use Rattle.sim_report.specs.declared.fact.Hold.{Hold}
 use Rattle.sim_report.specs.declared.fact.Hold.TheVariants.{Asks, Keeps, Settles, Takes, Waits}
 
@@ -40,6 +43,13 @@ pub record FiguresAsked : Type 0 where
   pub queues : List QueueAsked
   pub actors : List (List ℕ)
   pub wanted : Wanted
+
+-- messages to which something happened: their numbers in ascending order; of those to which it did more than once, how
+-- often; and the greatest of these numbers of times
+pub record Often : Type 0 where
+  pub all : List ℕ
+  pub again : List (ℕ × ℕ)
+  pub greatest : ℕ
 
 -- the rows before the end of a stretch; all that follows is over these
 abbrev pub rows_until : Stretch → List Row → List Row
@@ -73,7 +83,7 @@ count_names =
     ∷ codes "deletes_by_older_receipt" ∷ codes "deletes_of_gone" ∷ codes "changes" ∷ codes "failed_services"
     ∷ codes "forwarded" ∷ codes "dead_lettered" ∷ codes "moved_away" ∷ codes "lost_by_expiry" ∷ codes "refused_sends"
     ∷ codes "refused_receives" ∷ codes "refused_deletes" ∷ codes "refused_changes" ∷ codes "starts" ∷ codes "cancels"
-    ∷ codes "refused_starts" ∷ codes "refused_cancels" ∷ []
+    ∷ codes "refused_starts" ∷ codes "refused_cancels" ∷ codes "copies_changed" ∷ []
 
 -- whether a message that arrived is of an origin of its own, as what a consumer forwards
 abbrev pub is_own : Option MessageId → Detail → Bool
@@ -106,6 +116,7 @@ counted_as kinds.Start answers.Ok = Some 22
 counted_as kinds.Cancel answers.Ok = Some 23
 counted_as kinds.Start (answers.Refused r) = Some 24
 counted_as kinds.Cancel (answers.Refused r) = Some 25
+counted_as kinds.Scale answers.Ok = Some 26
 counted_as kind answer = None
 
 -- how an arrival came: by a forward, which has an origin of its own; by a redrive, which a queue sent; or by a move
@@ -215,15 +226,30 @@ abbrev pub oldest : Stretch → List Row → Peak
 oldest s rows =
     higher (oldest_before s rows) (record { at = s.until - 1; number = age_of_oldest (s.until - 1) (there rows) })
 
+-- the receipt of a row, if it has one
+abbrev pub receipt_of : RowReceipt → Option Receipt
+receipt_of (receipts.Made receipt) = Some receipt
+receipt_of (receipts.Given handle) = read_receipt handle
+receipt_of receipts.Absent = None
+
+-- a receipt of a queue with this number, by the number of its message there and by how often that had been received
+abbrev pub of_queue : ℕ → Option Receipt → Option (ℕ × ℕ)
+of_queue queue (Some r) = cond (r.site == queue) (Some (r.number, r.count)) None
+of_queue queue None = None
+
+-- the receipt of a row, if it is one of its queue
+abbrev pub own_receipt : Row → Option (ℕ × ℕ)
+own_receipt row = of_queue row.queue (receipt_of row.receipt)
+
 -- how often the message of a row had been received in its queue, if the row deleted it: its receipt is the newest, and
 -- counts the receives
-abbrev pub tries_when : Bool → RowReceipt → Option ℕ
-tries_when true (receipts.Given handle) = option_map (λ (r : Receipt). r.count) (read_receipt handle)
-tries_when deletes receipt = None
+abbrev pub tries_when : Bool → Option (ℕ × ℕ) → Option ℕ
+tries_when true receipt = option_map (λ (r : ℕ × ℕ). r.1) receipt
+tries_when false receipt = None
 
 -- how often each of the messages that rows deleted had been received
 abbrev pub tries : List Row → List ℕ
-tries rows = filter_map (λ row. tries_when (counts_in 4 row) row.receipt) rows
+tries rows = filter_map (λ row. tries_when (counts_in 4 row) (own_receipt row)) rows
 
 -- what tries come to: how many messages were received once, and how many more often
 abbrev pub tries_of : List ℕ → Tries
@@ -240,6 +266,80 @@ abbrev pub rows_where : (List Row → Row → Bool) → List Row → List Row �
 rows_where holds before [] = []
 rows_where holds before (row ∷ rows) =
     cond (holds before row) (row ∷ []) [] ++ rows_where holds (before ++ row ∷ []) rows
+
+-- what a row does with its receipt: a receive gives it; a call deletes with it, or is made with it; a service fails
+abbrev pub use_of : RowKind → RowAnswer → Use
+use_of kinds.Receive answers.Ok = Gives
+use_of kinds.Delete answers.Deleted = Deletes
+use_of kinds.Delete answer = Calls
+use_of kinds.Fail answer = Fails
+use_of kind answer = Passes
+
+-- the order of receipts, by the numbers of their messages and by their counts
+abbrev pub receipt_cmp : ℕ × ℕ → ℕ × ℕ → Ordering
+receipt_cmp = then_cmp (on (λ r. r.0) nat_cmp) (on (λ r. r.1) nat_cmp)
+
+-- the unused receipts, in their order, with one more row: they were given, no call to delete was made with them, and
+-- their service did not fail
+abbrev pub unused_with : Use → Option (ℕ × ℕ) → List (ℕ × ℕ) → List (ℕ × ℕ)
+unused_with Gives (Some r) rs = insert_key receipt_cmp rs r
+unused_with Deletes (Some r) rs = remove_key (is_at (receipt_cmp r)) rs
+unused_with Calls (Some r) rs = remove_key (is_at (receipt_cmp r)) rs
+unused_with Fails (Some r) rs = remove_key (is_at (receipt_cmp r)) rs
+unused_with what receipt rs = rs
+
+-- these receipts after these rows of a queue
+abbrev pub unused : List Row → List (ℕ × ℕ)
+unused rows = fold (λ rs (row : Row). unused_with (use_of row.kind row.answer) (own_receipt row) rs) [] rows
+
+-- whether a row that does this handles a receive: it deletes the message, or is a call with an unused receipt
+abbrev pub is_handled : Use → Option (ℕ × ℕ) → List (ℕ × ℕ) → Bool
+is_handled Deletes (Some r) rs = true
+is_handled Calls (Some r) rs = list_any (is_at (receipt_cmp r)) rs
+is_handled what receipt rs = false
+
+-- the same of a row, given the rows before
+abbrev pub handles : List Row → Row → Bool
+handles before row = is_handled (use_of row.kind row.answer) (own_receipt row) (unused before)
+
+-- the message of a receipt
+abbrev pub message_of : Option (ℕ × ℕ) → ℕ
+message_of (Some r) = r.0
+message_of None = 0
+
+-- how often it happened to a message with this number, which is among those to which it did
+abbrev pub times : ℕ → List (ℕ × ℕ) → ℕ
+times n again = unwrap_or (lookup (is_at (nat_cmp n)) again) 1
+
+-- messages to which something happened, with one to which it did once more
+abbrev pub once_more : ℕ → Often → Often
+once_more n o =
+    let had = list_any (λ m. m == n) o.all in
+    let more = times n o.again + 1 in
+    record {
+      all = insert_key nat_cmp o.all n;
+      again = cond had (insert_entry nat_cmp o.again n more) o.again;
+      greatest = max o.greatest (cond had more 1);
+    }
+
+abbrev pub never : Often
+never = record { all = []; again = []; greatest = 0 }
+
+-- the messages with the numbers of those rows of a stretch of which something holds, given all rows before them
+abbrev pub often : (List Row → Row → Bool) → (Row → ℕ) → Stretch → List Row → Often
+often holds number s rows = fold (λ o row. once_more (number row) o) never (rows_within s (rows_where holds [] rows))
+
+-- the messages of a queue that were handled in a stretch, and those that were received
+abbrev pub handled : Stretch → List Row → Often
+handled s rows = often handles (λ row. message_of (own_receipt row)) s rows
+
+-- whether a row gives a message
+abbrev pub gives : Use → Bool
+gives Gives = true
+gives what = false
+
+abbrev pub received : Stretch → List Row → Often
+received s rows = often (λ before row. gives (use_of row.kind row.answer)) (λ row. number_of row.message) s rows
 
 -- the messages of a queue that stay there by a row that does this to its message, by their numbers
 abbrev pub staying : Flight → ℕ → List ℕ → List ℕ
@@ -500,6 +600,13 @@ named_tries t =
     (codes "received_once", Some t.once) ∷ (codes "received_again", Some t.again) ∷ (codes "tries_sum", Some t.sum)
     ∷ (codes "tries_greatest", Some t.greatest) ∷ []
 
+-- the messages that were handled, and those that were received, by their names
+unfoldable pub named_often : Often → Often → List Figure
+named_often handled received =
+    (codes "handled_once", Some (length handled.all - length handled.again))
+    ∷ (codes "handled_again", Some (length handled.again)) ∷ (codes "handled_greatest", Some handled.greatest)
+    ∷ (codes "received_messages", Some (length received.all)) ∷ (codes "received_greatest", Some received.greatest) ∷ []
+
 -- the names of the figures of ages
 abbrev pub age_names : List ℕ → List (List ℕ)
 age_names name =
@@ -558,10 +665,10 @@ queue_figures queues w q rows =
     named_counts counts ++ (named_requests (receives_asked s rows) counts
     ++ (named_peak (codes "depth") (peak_of depth s rows) ++ (named_peak (codes "in_flight") (peak_of in_flight s rows)
     ++ (named_oldest (oldest s rows) ++ (named_left q w rows ++ (named_tries (tries_of (tries (rows_within s rows)))
-    ++ (named_ages (codes "age") w (rows_within s rows)
+    ++ (named_often (handled s rows) (received s rows) ++ (named_ages (codes "age") w (rows_within s rows)
     ++ (named_ages (codes "new_age") w (rows_within s (rows_of_new queues rows))
     ++ (named_ages (codes "moved_age") w (rows_within s (rows_of_moved queues rows))
-    ++ queue_bounds queues w rows)))))))))
+    ++ queue_bounds queues w rows))))))))))
 
 -- a time in thousandths of a stretch, rounded down
 abbrev pub permille : Stretch → ℕ → Option ℕ

@@ -1,11 +1,11 @@
 //! What the figures need of a row.
 ghost use Rattle.std.specs.Prelude.{◌≡◌};
 ghost use Rattle.sim_report.specs.Facts.{fact_of, place_in};
-ghost use Rattle.sim_report.specs.Figures.{counted_as, flight_of, hold_of, is_own, number_of, tries_when};
+ghost use Rattle.sim_report.specs.Figures.{counted_as, flight_of, hold_of, is_own, message_of, number_of, of_queue, receipt_of, tries_when, use_of};
 ghost use Rattle.sqs_formats.specs.Report.{is_column};
 
 use crate::column::{DELETES, RowCount};
-use sqs_message::{Detail, MessageId, Row, RowAnswer, RowKind, RowReceipt};
+use sqs_message::{Detail, MessageId, Receipt, Row, RowAnswer, RowKind, RowReceipt};
 
 // The place of arrivals among the counts, before it is known how they came.
 const ARRIVAL: u16 = 2;
@@ -45,6 +45,21 @@ pub enum Flight {
     Stays,
 }
 
+/// What a row does with its receipt.
+#[derive(Clone, Copy, Debug, PartialEq, Eq)]
+pub enum Use {
+    /// A receive gave it.
+    Gives,
+    /// The message was deleted with it.
+    Deletes,
+    /// A call to delete was made with it, which deleted nothing.
+    Calls,
+    /// A service failed that began with it.
+    Fails,
+    /// Nothing.
+    Passes,
+}
+
 /// What a row says to the figures.
 #[derive(Clone, Copy, Debug, PartialEq, Eq)]
 pub struct Fact {
@@ -65,8 +80,11 @@ pub struct Fact {
     pub flight: Flight,
     /// The number of its message in the queue; 0 if it has none.
     pub number: u64,
-    /// How often the message had been received, if the row deleted it.
-    pub tries: Option<u64>,
+    /// What it does with its receipt.
+    pub handling: Use,
+    /// Its receipt, if that is one of its queue: the number of the message there, and how often it
+    /// had been received.
+    pub receipt: Option<(u64, u64)>,
 }
 
 // Whether a message that arrived is of an origin of its own.
@@ -109,6 +127,7 @@ fn counted_as(kind: RowKind, answer: RowAnswer) -> Option<u16>
         (RowKind::Cancel, RowAnswer::Ok) => 23,
         (RowKind::Start, RowAnswer::Refused(_)) => 24,
         (RowKind::Cancel, RowAnswer::Refused(_)) => 25,
+        (RowKind::Scale, RowAnswer::Ok) => 26,
         _ => return None,
     };
     Some(place)
@@ -151,12 +170,36 @@ fn number_of(message: Option<MessageId>) -> u64
     }
 }
 
-// How often the message of a row in this column had been received, if the row deleted it.
-fn tries_of(column: Option<u16>, receipt: &RowReceipt) -> Option<u64>
-    ensures { result ≡ tries_when (is_column 4 column) receipt.now }
+// What a row of this kind with this answer does with its receipt.
+fn use_of(kind: RowKind, answer: RowAnswer) -> Use
+    ensures { result ≡ use_of kind answer }
 {
-    match (column, receipt) {
-        (Some(DELETES), RowReceipt::Given(handle)) => Some(handle.receipt()?.count),
+    match (kind, answer) {
+        (RowKind::Receive, RowAnswer::Ok) => Use::Gives,
+        (RowKind::Delete, RowAnswer::Deleted) => Use::Deletes,
+        (RowKind::Delete, _) => Use::Calls,
+        (RowKind::Fail, _) => Use::Fails,
+        _ => Use::Passes,
+    }
+}
+
+// The receipt of a row, if it has one.
+fn receipt_of(receipt: &RowReceipt) -> Option<Receipt>
+    ensures { result ≡ receipt_of receipt.now }
+{
+    match receipt {
+        RowReceipt::Made(receipt) => Some(*receipt),
+        RowReceipt::Given(handle) => handle.receipt(),
+        RowReceipt::Absent => None,
+    }
+}
+
+// The receipt of a row of this queue, if it is one of the queue.
+fn of_queue(queue: u32, receipt: Option<Receipt>) -> Option<(u64, u64)>
+    ensures { result ≡ of_queue queue receipt }
+{
+    match receipt {
+        Some(receipt) if receipt.site == queue => Some((receipt.number, receipt.count)),
         _ => None,
     }
 }
@@ -177,7 +220,28 @@ impl Fact {
             hold: hold_of(row.kind, row.answer),
             flight: flight_of(row.kind, row.answer),
             number: number_of(row.message),
-            tries: tries_of(count.column, &row.receipt),
+            handling: use_of(row.kind, row.answer),
+            receipt: of_queue(row.queue, receipt_of(&row.receipt)),
+        }
+    }
+
+    // How often its message had been received, if the row deleted it.
+    pub(crate) fn tries(&self) -> Option<u64>
+        ensures { result ≡ tries_when (is_column 4 self.now.count.column) self.now.receipt }
+    {
+        match (self.count.column, self.receipt) {
+            (Some(DELETES), Some((_, tries))) => Some(tries),
+            _ => None,
+        }
+    }
+
+    // The number of the message of its receipt; 0 if it has none.
+    pub(crate) fn message(&self) -> u64
+        ensures { result ≡ message_of self.now.receipt }
+    {
+        match self.receipt {
+            Some((number, _)) => number,
+            None => 0,
         }
     }
 

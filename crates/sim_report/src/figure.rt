@@ -9,7 +9,7 @@ use std::alloc::{AllocError, Global};
 use std::marker::Model;
 
 /// The number of counts.
-pub(crate) const COUNTS: usize = 26;
+pub(crate) const COUNTS: usize = 27;
 
 /// The number of figures of requests.
 pub(crate) const REQUESTS: usize = 8;
@@ -73,6 +73,7 @@ fn count_names() -> [&'static [u8]; COUNTS]
         b"cancels",
         b"refused_starts",
         b"refused_cancels",
+        b"copies_changed",
     ]
 }
 
@@ -94,7 +95,7 @@ pub(crate) fn named_counts(alloc: Global, counts: &[u64; COUNTS]) -> Result<Vec<
 
 // The count in a place.
 fn at(counts: &[u64; COUNTS], place: usize) -> u128
-    requires { place < 26 }
+    requires { place < 27 }
     ensures { result ≡ get_or counts.now place 0 }
 {
     u128::from(counts[place])

@@ -1,7 +1,7 @@
 //! The running figures of a queue.
 ghost use Rattle.std.specs.Prelude.{◌≡◌, ◌++◌, map, OnOk};
 ghost use Rattle.sim_report.specs.Figured.{bounds_by, fresh_queue, is_backlog_by, is_full_by, left_by, oldest_by, peaks_by, queue_ages, queue_changing, queue_counted, queue_counting, queue_numbers, queue_peaking, queue_sizes, queue_with};
-ghost use Rattle.sim_report.specs.Figures.{age_by, figure_fields, named_tries};
+ghost use Rattle.sim_report.specs.Figures.{age_by, figure_fields, named_often, named_tries};
 ghost use Rattle.sqs_formats.specs.Rows.{lines};
 
 use crate::aged::{AGES, Aged, BOUNDS};
@@ -10,9 +10,11 @@ use crate::backlogs::{Backlogs, NO_BACKLOGS};
 use crate::column::comes_in;
 use crate::fact::{Fact, Flight};
 use crate::figure::{COUNTS, Figure, add_figures, named_counts, named_requests};
+use crate::handled::Handled;
 use crate::lasting::{Lasting, NO_TIME};
 use crate::level::{EMPTY, Level};
 use crate::numbers::Numbers;
+use crate::often::Often;
 use crate::peak::Peak;
 use crate::polls::Polls;
 use crate::stretch::Stretch;
@@ -29,6 +31,9 @@ const PEAKS: usize = 6;
 const LEFT: usize = 5;
 
 const TRIES: usize = 4;
+
+// The number of figures of messages that were handled and received.
+const OFTEN: usize = 5;
 
 // The names of the figures of ages, for the ages of all messages, of those that came by no move,
 // and of those that came by one.
@@ -108,6 +113,7 @@ pub(crate) struct QueueFigures {
     asked: QueueAsked,
     counts: [u64; COUNTS],
     polls: Polls,
+    handled: Handled,
     tries: Tries,
     ages: Aged,
     // The ages of messages that came by no move, and of those that came by one.
@@ -134,7 +140,7 @@ impl Model for QueueFigures {
 
     ghost Value = { QueueState };
 
-    ghost view = { λ q. record { asked = q.asked; counts = q.counts; polls = q.polls; tries = q.tries; ages = q.ages; new_ages = q.new_ages; moved_ages = q.moved_ages; begun = q.begun; level = q.level; flying = q.flying; moved = q.moved; there = q.there; depth = q.depth; in_flight = q.in_flight; oldest = q.oldest; full = q.full; backlogs = q.backlogs } };
+    ghost view = { λ q. record { asked = q.asked; counts = q.counts; polls = q.polls; handled = q.handled; tries = q.tries; ages = q.ages; new_ages = q.new_ages; moved_ages = q.moved_ages; begun = q.begun; level = q.level; flying = q.flying; moved = q.moved; there = q.there; depth = q.depth; in_flight = q.in_flight; oldest = q.oldest; full = q.full; backlogs = q.backlogs } };
 }
 
 // Tries by their names.
@@ -150,6 +156,20 @@ fn named_tries(tries: Tries) -> [Figure; TRIES]
     ]
 }
 
+// The messages that were handled, and those that were received, by their names.
+#[tactic(auto, unfolding(crate::specs::Figures::named_often))]
+fn named_often(handled: &Often, received: &Often) -> [Figure; OFTEN]
+    ensures { result ≡ named_often handled.now received.now }
+{
+    [
+        Figure::of(b"handled_once", Some(u128::from(handled.once()))),
+        Figure::of(b"handled_again", Some(u128::from(handled.again()))),
+        Figure::of(b"handled_greatest", Some(u128::from(handled.greatest))),
+        Figure::of(b"received_messages", Some(u128::from(received.all()))),
+        Figure::of(b"received_greatest", Some(u128::from(received.greatest))),
+    ]
+}
+
 impl QueueFigures {
     /// The figures of no rows over a stretch.
     #[tactic(auto, unfolding(crate::specs::Figures::count_names))]
@@ -160,6 +180,7 @@ impl QueueFigures {
             asked,
             counts: [0; COUNTS],
             polls: Polls::new(alloc),
+            handled: Handled::new(alloc),
             tries: NO_TRIES,
             ages: Aged::new(alloc),
             new_ages: Aged::new(alloc),
@@ -182,7 +203,7 @@ impl QueueFigures {
         ensures { OnOk result (self.new ≡ queue_counting place wanted fact.now self.old) }
     {
         count_in(&mut self.counts, place)?;
-        if let Some(tries) = fact.tries {
+        if let Some(tries) = fact.tries() {
             self.tries = self.tries.with(tries)?;
         }
         if let Some(age) = fact.count.age {
@@ -260,6 +281,7 @@ impl QueueFigures {
         let age = self.age_by(fact);
         self.oldest.take(stretch, true, fact.at, age);
         self.polls.take(stretch.from <= fact.at, fact)?;
+        self.handled.take(stretch.from <= fact.at, fact)?;
         self.change(place, fact)
     }
 
@@ -393,7 +415,9 @@ impl QueueFigures {
         let of = self.asked.name.as_bytes();
         add_figures(text, of, &self.peaks(wanted.stretch))?;
         add_figures(text, of, &self.left(wanted))?;
-        add_figures(text, of, &named_tries(self.tries))
+        add_figures(text, of, &named_tries(self.tries))?;
+        let often = named_often(&self.handled.handled, &self.handled.received);
+        add_figures(text, of, &often)
     }
 
     /// Adds the lines of its figures.

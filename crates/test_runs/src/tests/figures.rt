@@ -158,6 +158,7 @@ figure,q,starts,1
 figure,q,cancels,0
 figure,q,refused_starts,0
 figure,q,refused_cancels,1
+figure,q,copies_changed,0
 figure,q,SendMessage,1
 figure,q,ReceiveMessage,5
 figure,q,DeleteMessage,3
@@ -181,6 +182,11 @@ figure,q,received_once,2
 figure,q,received_again,1
 figure,q,tries_sum,4
 figure,q,tries_greatest,2
+figure,q,handled_once,3
+figure,q,handled_again,0
+figure,q,handled_greatest,1
+figure,q,received_messages,4
+figure,q,received_greatest,2
 figure,q,age_sum_ms,117
 figure,q,age_p50_ms,40
 figure,q,age_p95_ms,65
@@ -258,6 +264,7 @@ figure,d,starts,0
 figure,d,cancels,0
 figure,d,refused_starts,0
 figure,d,refused_cancels,0
+figure,d,copies_changed,0
 figure,d,SendMessage,1
 figure,d,ReceiveMessage,0
 figure,d,DeleteMessage,0
@@ -281,6 +288,11 @@ figure,d,received_once,0
 figure,d,received_again,0
 figure,d,tries_sum,0
 figure,d,tries_greatest,0
+figure,d,handled_once,0
+figure,d,handled_again,0
+figure,d,handled_greatest,0
+figure,d,received_messages,0
+figure,d,received_greatest,0
 figure,d,age_sum_ms,0
 figure,d,age_p50_ms,
 figure,d,age_p95_ms,
@@ -358,6 +370,7 @@ figure,c,starts,1
 figure,c,cancels,0
 figure,c,refused_starts,0
 figure,c,refused_cancels,1
+figure,c,copies_changed,0
 figure,c,SendMessage,1
 figure,c,ReceiveMessage,5
 figure,c,DeleteMessage,3
