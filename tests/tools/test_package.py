@@ -242,7 +242,7 @@ class Package(PackageCase):
             ["sqs_rehearse", "co"], ["sqs_rehearse", "su"], ["sqs_rehearse", "run", "--w"],
             ["sqs_rehearse", "run", "--scripts", "ro"], ["sqs_rehearse", "compare", "a.toml", "--"]]),
             [["compare"], ["summary"], ["--window", "--window-figures", "--workers"], ["root"],
-             ["--help", "--preview", "--scripts", "--v3"]])
+             ["--help", "--preview", "--reach", "--scripts", "--v3"]])
 
     @needs_program
     def test_first_scenario(self):

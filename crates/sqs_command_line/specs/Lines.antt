@@ -76,6 +76,7 @@ pub record IsCheck (rows : List Row) (l : CheckLine) : Type 0 where
 -- a comparison by its arguments
 pub record IsCompare (rows : List Row) (l : CompareLine) : Type 0 where
   pub scripts : told l.scripts ≡ first_of (codes "scripts") rows
+  pub reach : IsFlag (one_of (codes "reach") rows) l.reach
   pub version_3 : AsksForThird rows l.version_3
   pub first : told l.first ≡ first_of (codes "first") rows
   pub second : told l.second ≡ first_of (codes "second") rows

@@ -57,10 +57,11 @@ run_app =
 abbrev pub check_app : App
 check_app = with_rule (with_version_3 (with_rule (new_app (codes "check")) (option_rule (codes "scripts")))) (place_rule false (codes "scenario"))
 
--- compare [--scripts DIR] [--v3] [--preview] FIRST SECOND
+-- compare [--scripts DIR] [--reach] [--v3] [--preview] FIRST SECOND
 abbrev pub compare_app : App
 compare_app =
-    with_rule (with_rule (with_version_3 (with_rule (new_app (codes "compare")) (option_rule (codes "scripts")))) (place_rule true (codes "first")))
+    with_rule
+    (with_rule (with_version_3 (with_rule (with_rule (new_app (codes "compare")) (option_rule (codes "scripts"))) (flag_rule (codes "reach")))) (place_rule true (codes "first")))
     (place_rule true (codes "second"))
 
 -- figures [--scripts DIR] and what is wanted of them [--v3] [--preview] SCENARIO [LOG]

@@ -56,6 +56,8 @@ pub struct CheckLine<'a> {
 pub struct CompareLine<'a> {
     /// The folder of the scripts.
     pub scripts: Option<&'a str>,
+    /// Whether it is said which queues cannot differ.
+    pub reach: bool,
     /// Whether version 3 of scenarios is read, too.
     pub version_3: bool,
     /// The files of the two scenarios.

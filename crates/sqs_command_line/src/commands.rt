@@ -13,6 +13,9 @@ const SCRIPTS_HELP: &str = "The folder of the scripts [default: .]";
 /// The help of the newest version.
 const V3_HELP: &str = "Read version 3 of scenarios, too";
 
+/// The help of what a comparison says of reach.
+const REACH_HELP: &str = "Say behind the comparison which queues cannot differ";
+
 /// The help of the scenario.
 const SCENARIO_HELP: &str = "The scenario's file [default: standard input]";
 
@@ -51,8 +54,9 @@ Example:
 /// The text below the help of `compare`.
 const COMPARE_HELP: &str =
     "Rehearses both scenarios. Writes a line (CSV) to standard output for each queue and column of the
-report: compare, queue, column, the first's value, the second's, the difference. A fault is one line on
-standard error.
+report: compare, queue, column, the first's value, the second's, the difference. With --reach it then
+writes a line for each queue of both: reach, queue, and same if no difference reaches it, or may-differ.
+A fault is one line on standard error.
 
 Status:
   0  done
@@ -62,7 +66,7 @@ Status:
   4  a write failed
 
 Example:
-  sqs_rehearse compare today.toml tomorrow.toml";
+  sqs_rehearse compare --reach today.toml tomorrow.toml";
 
 /// The text below the help of `figures`.
 const FIGURES_HELP: &str =
@@ -269,6 +273,7 @@ fn compare_command<'a>(alloc: Global) -> Result<Command<'a>, AllocError>
         COMPARE_HELP,
     );
     let command = command.arg(option(alloc, "scripts", SCRIPTS_HELP))?;
+    let command = command.arg(flag(alloc, "reach", REACH_HELP))?;
     let command = with_version_3(alloc, command)?;
     let command = command.arg(place(alloc, "first", true, "The scenario to compare with"))?;
     let command = command.arg(place(alloc, "second", true, "The scenario to compare"))?;

@@ -96,6 +96,7 @@ fn compare_line<'a>(matches: &ArgMatches<'a>) -> CompareLine<'a>
 {
     CompareLine {
         scripts: matches.get_str("scripts"),
+        reach: matches.get_flag("reach"),
         version_3: version_3(matches),
         first: matches.get_str("first"),
         second: matches.get_str("second"),

@@ -1,6 +1,9 @@
 //! Bodies of messages.
 ghost use Rattle.std.specs.Prelude.{◌≡◌, IfOk};
+ghost use Rattle.std.specs.Cmp.{partial_equiv_from_equiv};
+ghost use Rattle.std.specs.Cmp.Lexicographic.{nat_list_eq_equiv};
 ghost use Rattle.std.specs.Fmt.{decimal};
+ghost use Rattle.std.specs.Str.{bytes_eq};
 ghost use Rattle.md5.specs.Md5.{md5 as md5_of};
 ghost use Rattle.sqs_message.specs.Bodies.{contains, filled};
 
@@ -72,6 +75,20 @@ impl Template {
             md5: body_md5(room.as_slice()),
         })
     }
+}
+
+impl PartialEq for Template {
+    ghost eq = { bytes_eq };
+
+    ghost laws = { partial_equiv_from_equiv nat_list_eq_equiv };
+
+    fn eq(&self, other: &Template) -> bool {
+        self.source.text == other.source.text
+    }
+}
+
+impl Eq for Template {
+    ghost laws = { nat_list_eq_equiv };
 }
 
 /// The body of a message, as what it is made of: a text, which other bodies may share, and a number.

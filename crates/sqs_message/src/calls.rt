@@ -3,7 +3,7 @@ use crate::listed::Listed;
 use crate::text::Text;
 
 /// A call of an actor at its queue. Times are seconds.
-#[derive(Drop)]
+#[derive(PartialEq, Eq, Drop)]
 pub enum Call {
     /// `SendMessage`. Group and id are for a FIFO queue; the delay is a message timer.
     Send {
@@ -38,7 +38,7 @@ pub enum Call {
 }
 
 /// A call of a script, and when it is made, in milliseconds.
-#[derive(Drop)]
+#[derive(PartialEq, Eq, Drop)]
 pub struct ScriptCall {
     pub at: u64,
     pub call: Call,

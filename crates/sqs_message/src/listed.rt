@@ -1,4 +1,6 @@
 //! Lists of items.
+ghost use Rattle.std.specs.Cmp.Lexicographic.{lists_equiv, lists_per, pointwise};
+
 use std::marker::Model;
 
 /// Items in order. Contracts see the list of them, whatever memory holds it.
@@ -38,4 +40,18 @@ impl<T: Drop> Listed<T> {
     {
         self.items
     }
+}
+
+impl<T: PartialEq> PartialEq for Listed<T> {
+    ghost eq = { pointwise T.eq };
+
+    ghost laws = { lists_per T.laws };
+
+    fn eq(&self, other: &Listed<T>) -> bool {
+        self.items.as_slice() == other.items.as_slice()
+    }
+}
+
+impl<T: Eq> Eq for Listed<T> {
+    ghost laws = { lists_equiv T.Eq.laws };
 }

@@ -11,7 +11,7 @@ pub struct Quantile {
 }
 
 /// How long something takes, by one random word.
-#[derive(Drop)]
+#[derive(PartialEq, Eq, Drop)]
 pub enum Distribution {
     /// From the one to the other, in milliseconds, each time with the same chance.
     Uniform(u64, u64),
@@ -20,14 +20,14 @@ pub enum Distribution {
 }
 
 /// A group of messages, with its weight among others.
-#[derive(Drop)]
+#[derive(PartialEq, Eq, Drop)]
 pub struct WeightedGroup {
     pub group: Text,
     pub weight: u64,
 }
 
 /// The groups to which a producer sends.
-#[derive(Drop)]
+#[derive(PartialEq, Eq, Drop)]
 pub enum Groups {
     /// So many groups in turn: g0, g1 and so on.
     InTurn(u64),
@@ -44,7 +44,7 @@ pub struct Stretch {
 
 /// Settings of a producer, which sends messages of its own. Times are milliseconds, but the delay
 /// is in seconds.
-#[derive(Drop)]
+#[derive(PartialEq, Eq, Drop)]
 pub struct ProducerSettings {
     /// The number of messages that it sends.
     pub count: u64,
@@ -84,7 +84,7 @@ pub enum Serving {
 }
 
 /// The queues to which a consumer forwards what it served.
-#[derive(Drop)]
+#[derive(PartialEq, Eq, Drop)]
 pub struct Forwarding {
     /// The numbers of the queues, in order. A queue that is named twice gets two messages.
     pub to: Listed<u32>,
@@ -106,7 +106,7 @@ pub struct Scaling {
 
 /// Settings of a consumer, which receives, serves and deletes messages. Times are milliseconds, but
 /// wait and timeout are in seconds.
-#[derive(Drop)]
+#[derive(PartialEq, Eq, Drop)]
 pub struct ConsumerSettings {
     /// When it first receives.
     pub start: u64,
@@ -157,7 +157,7 @@ pub struct ScalingStep {
 }
 
 /// How many copies a scaler wants.
-#[derive(Drop)]
+#[derive(PartialEq, Eq, Drop)]
 pub enum Target {
     /// One for each of so many visible messages.
     PerCopy(u64),
@@ -168,7 +168,7 @@ pub enum Target {
 
 /// Settings of a scaler, which says how many copies of consumers at its queue ask for messages. Times
 /// are milliseconds.
-#[derive(Drop)]
+#[derive(PartialEq, Eq, Drop)]
 pub struct ScalerSettings {
     /// When it first reads how many messages are visible.
     pub start: u64,
@@ -193,7 +193,7 @@ pub struct ScalerSettings {
 }
 
 /// The kind of an actor, with what it does.
-#[derive(Drop)]
+#[derive(PartialEq, Eq, Drop)]
 pub enum Role {
     Script(Script),
     Producer(ProducerSettings),
@@ -202,7 +202,7 @@ pub enum Role {
 }
 
 /// Settings of an actor.
-#[derive(Drop)]
+#[derive(PartialEq, Eq, Drop)]
 pub struct ActorSettings {
     /// The number of the queue that it calls.
     pub home: u32,

@@ -13,3 +13,7 @@ pub mod PrintedRows
 pub mod PrintedRuns
 pub mod Counters
 pub mod Asking
+pub mod Settings
+pub mod Spreading
+pub mod Reaching
+pub mod Saying

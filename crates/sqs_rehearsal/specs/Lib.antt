@@ -17,3 +17,5 @@ pub mod Printed
 pub mod PrintedLaws
 pub mod Endings
 pub mod Asked
+pub mod Reaching
+pub mod Said

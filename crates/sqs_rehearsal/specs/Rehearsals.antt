@@ -3,7 +3,7 @@ use Rattle.std.specs.Prelude.{Bool, Err, List, MatchResult, None, Ok, Result, So
 use Rattle.sim_clock.specs.declared.refusal.Refusal.{Refusal}
 use Rattle.sqs_formats.specs.Output.{log_of}
 use Rattle.sqs_formats.specs.Rows.{line, log_header}
-use Rattle.sqs_formats.specs.Scenario.{released, scenario_upto}
+use Rattle.sqs_formats.specs.Scenario.{newest_unasked, scenario_upto}
 use Rattle.sqs_laws.specs.Laws.{Journeys, KeepsTheRules, WhatIsLeft}
 use Rattle.sqs_model.specs.Accounts.{EachHasOnePlace, NoOtherHasPlace}
 use Rattle.sqs_model.specs.Finals.{finals_of}
@@ -31,9 +31,9 @@ pub record Request : Type 0 where
 abbrev pub request_upto : ℕ → List ℕ → List (List ℕ × List ℕ) → Options → Request
 request_upto newest text scripts options = record { newest = newest; text = text; scripts = scripts; options = options }
 
--- a request for these, of released versions
+-- a request for these, of versions 1 and 2
 abbrev pub request : List ℕ → List (List ℕ × List ℕ) → Options → Request
-request = request_upto released
+request = request_upto newest_unasked
 
 -- a request's scenario, split as asked, and its one-list run: each accepted message is in one place, no other in any,
 -- the rows keep the rules of SQS, and they say which messages are left and which are under way

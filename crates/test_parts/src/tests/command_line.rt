@@ -25,7 +25,7 @@ fn asked<'a>(alloc: Global, words: &'a [&'a str]) -> Asked<'a> {
         }
         Ok(Line::Compare(compare)) => {
             let words = [compare.first, compare.second, compare.scripts, None];
-            Ok(("compare", NONE, (compare.version_3, false), words))
+            Ok(("compare", NONE, (compare.version_3, compare.reach), words))
         }
         Ok(Line::Figures(figures)) => {
             let words = [None, figures.log, figures.scripts, figures.scenario];
@@ -53,7 +53,7 @@ const LOG: [Option<&str>; 4] = [None, Some("out.csv"), Some("calls"), Some("netw
 const SCENARIO: [Option<&str>; 4] = [None, None, None, Some("network.toml")];
 
 // Lines, and what they ask for.
-const LINES: [(&str, Asked); 20] = [
+const LINES: [(&str, Asked); 21] = [
     (
         "sqs_rehearse run --window 500 --parts 2 --map 0,1 --workers 4 --log out.csv --scripts calls --quiet network.toml",
         Ok(("run", (Some(500), Some(2), Some(4)), (false, true), ALL)),
@@ -91,6 +91,10 @@ const LINES: [(&str, Asked); 20] = [
     (
         "sqs_rehearse compare a.toml b.toml",
         Ok(("compare", NONE, (false, false), TWO)),
+    ),
+    (
+        "sqs_rehearse compare --reach a.toml b.toml",
+        Ok(("compare", NONE, (false, true), TWO)),
     ),
     (
         "sqs_rehearse compare --v3 a.toml b.toml",

@@ -1,0 +1,8 @@
+use Rattle.std.proofs.Common.{sym, ◌∙◌}
+use Rattle.sqs_rehearsal.proofs.Settings.{actors_decide}
+use Rattle.sqs_rehearsal.proofs.alike.has_same_actors.Goals as goal
+
+pub returns : goal.returns
+returns c =
+    let same = actors_decide c.in_ok-actors.actors.items c.in_ok-others.others.items in
+    rw (← c.in_ok-actors.ensures, ← c.in_ok-others.ensures) (λ h. same.0 (sym c.eq.ensures ∙ h), λ h. c.eq.ensures ∙ same.1 h)
