@@ -5,14 +5,14 @@ use Rattle.toml.specs.Data.{Members}
 use Rattle.toml.specs.View.{table_view}
 use Rattle.sim_clock.specs.declared.refusal.Refusal.{Refusal}
 use Rattle.sim_clock.specs.declared.refusal.Refusal.TheVariants.{NotToml, TooMany}
-use Rattle.sqs_formats.specs.Scenario.{document, is_small, released}
+use Rattle.sqs_formats.specs.Scenario.{document, is_small, newest_unasked}
 use Rattle.sim_scenario.specs.declared.draft.Draft.{Draft}
 use Rattle.sim_scenario.specs.declared.draft.Newest.{Newest}
 use Rattle.sim_scenario.specs.declared.draft.Newest.TheVariants.{Second, Third}
 
 -- the number of the newest version that may be read
 abbrev pub newest_of : Newest → ℕ
-newest_of Second = released
+newest_of Second = 2
 newest_of Third = 3
 
 -- the document of a text, or why none is read in it
@@ -24,9 +24,9 @@ pub record IsDraftUpto (newest : ℕ) (text : List ℕ) (draft : Draft) : Type 0
   pub upto : draft.newest ≡ newest
   pub table : result_map_both table_view (λ refusal. refusal) draft.table ≡ draft_of text
 
--- a draft of a text, of which released versions alone may be read
+-- a draft of a text, of which versions 1 and 2 alone may be read
 abbrev pub IsDraftOf : List ℕ → Draft → Type 0
-IsDraftOf = IsDraftUpto released
+IsDraftOf = IsDraftUpto newest_unasked
 
 -- what holds of the text of a draft, and of the newest version that may be read of it
 abbrev pub OfDraft : Draft → (ℕ → List ℕ → Type 0) → Type 0

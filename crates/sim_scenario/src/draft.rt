@@ -69,7 +69,7 @@ fn table_of(alloc: Global, text: &[u8]) -> Result<Result<Table, Refusal>, AllocE
 }
 
 impl Draft {
-    /// The draft of a text, of which released versions may be read.
+    /// The draft of a text, of which versions 1 and 2 may be read.
     ///
     /// # Errors
     ///

@@ -23,7 +23,7 @@ use Rattle.sqs_model.specs.Accounts.{origin_in, is_first, places}
 use Rattle.sqs_formats.specs.Targets.{step, target_by}
 use Rattle.sqs_formats.specs.declared.faults.ScenarioFault.{ScenarioFault}
 use Rattle.sqs_formats.specs.Actors.{Files}
-use Rattle.sqs_formats.specs.Scenario.{released, scenario_upto}
+use Rattle.sqs_formats.specs.Scenario.{newest_unasked, scenario_upto}
 use Rattle.sqs_formats.specs.Output.{output_records, fault_line}
 
 -- what a lemma opens to compute a run, but for MD5
@@ -70,6 +70,6 @@ shown_when n (Ok s) = shown_run s (after s.horizon n (opening s))
 abbrev pub shown_upto : ℕ → ℕ → Files → List ℕ → Shown
 shown_upto newest n files text = shown_when n (scenario_upto newest files text)
 
--- what a text of a released version leads to
+-- what a text of version 1 or 2 leads to
 abbrev pub shown : ℕ → Files → List ℕ → Shown
-shown = shown_upto released
+shown = shown_upto newest_unasked

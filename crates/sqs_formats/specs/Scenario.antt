@@ -1,4 +1,4 @@
--- The scenario of a text, or the first fault in it. Versions 1 and 2 are released; a caller may ask for a newer one.
+-- The scenario of a text, or the first fault in it. Versions 1 and 2 are always read; a caller may ask for a newer one.
 use Rattle.std.specs.Prelude.{map, take, drop, flat_map, ◌++◌, ℕ, ◌+◌, nat_le, Bool, true, false, codes, if◌then◌else◌, List, [], ◌∷◌, length, filter_map, Option, Some, None, Result, Ok, ok_or}
 use Rattle.std.specs.Str.{is_utf8}
 use Rattle.toml.specs.Data.{Data, Items, Members, get_member, as_array}
@@ -109,13 +109,13 @@ scenario_upto newest files text = do
   ms ← ok_or (document text) (fault_at NotToml [])
   scenario_in newest files ms
 
--- the newest version that is released
-abbrev pub released : ℕ
-released = 2
+-- the newest version that is read if no caller asks for a newer one
+abbrev pub newest_unasked : ℕ
+newest_unasked = 2
 
--- the scenario of a text of a released version
+-- the scenario of a text of such a version
 abbrev pub scenario_of : Files → List ℕ → Result Scenario ScenarioFault
-scenario_of = scenario_upto released
+scenario_of = scenario_upto newest_unasked
 
 -- the names of script files that a text asks for
 abbrev pub list_or_none : Option Items → List Data

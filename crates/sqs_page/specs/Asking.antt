@@ -25,6 +25,6 @@ wanted_by o =
 abbrev pub asked_by : PageOptions → Asked
 asked_by o = record { newest = newest_if o.version_3; figures = wanted_by o }
 
--- what is asked of it without options: a released version, and no figures
+-- what is asked of it without options: version 1 or 2, and no figures
 abbrev pub plain : Asked
 plain = record { newest = Second; figures = None }
