@@ -90,7 +90,7 @@ def ran(name: str, shown: str, text: bytes, out: bytes) -> tuple[int, str]:
 
 
 def shown_by(case: Case) -> str:
-    """What shows a case: with texts of version 3, or with those of released versions alone."""
+    """What shows a case: with texts of version 3, or with those of versions 1 and 2 alone."""
     return VERSION_3 if case.is_version_3 else "shown"
 
 
