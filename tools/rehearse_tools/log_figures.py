@@ -37,8 +37,8 @@ Figured = dict[str, Figures]
 
 
 class Names(NamedTuple):
-    """The names in a log: of queues, and of all who act or are told of; and the numbers of queues that are known by the
-    ids of their messages."""
+    """The names in a log: of queues, and of all who act or stand in a detail; and the numbers of queues that are known
+    by the ids of their messages."""
     queues: set[str]
     agents: set[str]
     numbers: dict[str, int]
