@@ -268,32 +268,21 @@ def word(seed: int, agent: int, place: int) -> int:
 
 # ---- laws that are proved ----
 def in_flight(log: Log, scenario: Scenario) -> None:
-    """A message that was received is not received or moved until it is released. It is released, or leaves for the
-    dead-letter queue, exactly when the timeout of its last receive or change ends, unless it was deleted or has
-    expired by then; that is at most 12 hours after the receive. No more than `in_flight` of a queue's messages are in
-    flight at once."""
-    ends: dict[str, int] = {}
-    since: dict[str, int] = {}
-    held: collections.Counter[str] = collections.Counter()
+    """A message that was received is not received again or moved by a task until it is released. No more than `in_flight`
+    of a queue's messages are in flight at once. Only a message in flight has its timeout changed, and only such a
+    message leaves for the dead-letter queue."""
+    flying: dict[str, set[str]] = collections.defaultdict(set)
     for row in log:
-        message = row.message
+        held = flying[row.queue]
+        if row.is_received() or row.call == "move":
+            must(row.message not in held, row, "received or moved in flight")
+        if row.is_changed() or row.call == "redrive":
+            must(row.message in held, row, "changed, or gone to the dead-letter queue, though not in flight")
         if row.is_received():
-            must(message not in ends, row, "received in flight")
-            ends[message], since[message] = row.at + scenario.visibility_ms(row), row.at
-            held[row.queue] += 1
-            must(held[row.queue] <= scenario.queues[row.queue].get("in_flight", 120_000), row, "over the limit")
-        elif row.is_changed():
-            end = row.at + 1000 * int(row.detail)
-            must(message in ends and row.at < ends[message], row, "changed though not in flight")
-            must(end <= since[message] + LONGEST_FLIGHT_MS, row, "in flight for over 12 hours")
-            ends[message] = end
+            held.add(row.message)
+            must(len(held) <= scenario.queues[row.queue].get("in_flight", 120_000), row, "over the limit")
         elif row.call == "release" or row.leaves():
-            back = row.call in ("release", "redrive")
-            must(row.call != "move" or message not in ends, row, "moved in flight")
-            must(not back or ends.get(message, None if message in since else row.at) == row.at, row, "back at another time")
-            must(message not in ends or row.at <= ends[message] - (row.answer == "deleted"), row, "not back in time")
-            held[row.queue] -= ends.pop(message, None) is not None
-    must(all(end > scenario.horizon for end in ends.values()), None, "not back by the end")
+            held.discard(row.message)
 
 
 def the_end(log: Log, scenario: Scenario) -> None:
@@ -424,41 +413,88 @@ def time(log: Log, scenario: Scenario) -> None:
     must(all(end > scenario.horizon for end in waits.values()), None, "waits for ever")
 
 
-# ---- laws that hold by the definitions ----
-def delay_and_retention(log: Log, scenario: Scenario) -> None:
-    """A message with a delay (the send's own at a standard queue, else the queue's; none if it was redriven or moved) is
-    released exactly when it ends, and not received before; no other is released that was not received. From
-    `retention_s` after it was enqueued on no row receives, changes, releases or removes a message but `expire`, which
-    has exactly that moment (its arrival's, if it arrives too old). It was enqueued when it came, but a dead letter of a
-    standard queue when it was enqueued before; `expire` and `delete` tell its age since then."""
+def delays(log: Log, scenario: Scenario) -> None:
+    """A message that was sent or forwarded to its queue is not received, changed, released, redriven or moved before its
+    delay is over: the send's own at a standard queue, else the queue's. What is released and was not in flight is so
+    exactly at the end of its delay, once. A delay that goes on at the end of the log ends past the horizon. Rows are in
+    the order of time, so no row comes behind the end of a delay that goes on."""
     given = Sends(log, scenario).given
-    since: dict[str, int] = {}
     ready: dict[str, int] = {}
-    expiry: dict[str, int] = {}
-    received: set[str] = set()
+    flying: set[str] = set()
     for place, row in enumerate(log):
+        message = row.message
+        if row.comes():
+            if given[place].delay_s:
+                ready[message] = row.at + 1000 * given[place].delay_s
+            continue
+        if row.call == "release" and message not in flying:
+            must(ready.pop(message, None) == row.at, row, "no end of a delay")
+        elif row.is_received() or row.is_changed() or row.call in ("release", "redrive", "move"):
+            must(message not in ready, row, "before its delay is over")
+        elif row.answer == "expired":
+            must(row.at <= ready.pop(message, row.at), row, "expires behind the end of its delay")
+        if row.is_received():
+            flying.add(message)
+        elif row.call == "release" or row.leaves():
+            flying.discard(message)
+    must(all(at > scenario.horizon for at in ready.values()), None, "still delayed")
+
+
+def releases(log: Log, scenario: Scenario) -> None:
+    """A message in flight is released, or leaves for the dead-letter queue, exactly when the timeout of its last receive
+    or change ends. Until then it may be deleted or expire. If it is in flight at the end of the log, the timeout ends
+    past the horizon. Rows are in the order of time, so none comes behind the end of the timeout of what is in flight."""
+    ends: dict[str, int] = {}
+    for row in log:
+        if row.is_received():
+            ends[row.message] = row.at + scenario.visibility_ms(row)
+        elif row.is_changed():
+            must(row.at <= ends.get(row.message, row.at), row, "changed behind the end of the timeout")
+            ends[row.message] = row.at + 1000 * int(row.detail)
+        elif row.call == "release" or row.leaves():
+            end = ends.pop(row.message, row.at)
+            must(row.at == end if row.call in ("release", "redrive") else row.at <= end, row, "not back just then")
+    must(all(end > scenario.horizon for end in ends.values()), None, "not back by the end")
+
+
+# ---- laws that hold by the definitions ----
+def longest_flight(log: Log, scenario: Scenario) -> None:
+    """A message is in flight for at most 12 hours after its receive. One that its timeout brings back at a moment is not
+    changed or deleted by a call of that moment, which comes later."""
+    ends: dict[str, int] = {}
+    since: dict[str, int] = {}
+    for row in log:
+        message = row.message
+        if row.is_received():
+            ends[message], since[message] = row.at + scenario.visibility_ms(row), row.at
+        elif row.is_changed():
+            must(row.at < ends[message], row, "changed though it comes back")
+            ends[message] = row.at + 1000 * int(row.detail)
+            must(ends[message] <= since[message] + LONGEST_FLIGHT_MS, row, "in flight for over 12 hours")
+        elif row.call == "release" or row.leaves():
+            end = ends.pop(message, NEVER)
+            must(row.answer != "deleted" or row.at < end, row, "deleted though it comes back")
+
+
+def retention(log: Log, scenario: Scenario) -> None:
+    """From `retention_s` after it was enqueued on no row receives, changes, releases or removes a message but `expire`,
+    which has exactly that moment (its arrival's, if it arrives too old). It was enqueued when it came, but a dead letter
+    of a standard queue when it was enqueued before; `expire` and `delete` tell its age since then."""
+    since: dict[str, int] = {}
+    expiry: dict[str, int] = {}
+    for row in log:
         message, queue = row.message, scenario.queues[row.queue]
         if row.comes():
             keeps = row.agent in scenario.queues and not queue["fifo"]
             since[message] = since[row.origin()] = since[row.origin()] if keeps else row.at
             expiry[message] = max(row.at, since[message] + 1000 * queue.get("retention_s", 345_600))
-            if given[place].delay_s:
-                ready[message] = row.at + 1000 * given[place].delay_s
         elif row.is_received() or row.is_changed() or row.call == "release" or row.leaves():
-            expires = row.call == "expire"
-            must(row.at == expiry[message] if expires else row.at < expiry[message], row, "another end")
-            must(row.call != "release" or message in ready or message in received, row, "had no delay")
+            must(row.at == expiry[message] if row.call == "expire" else row.at < expiry[message], row, "another end")
             tells_age = row.answer in ("deleted", "expired")
             must(not tells_age or int(row.detail) == row.at - since[message], row, "another age")
-            if message in ready:
-                must(expires and row.at <= ready[message] or row.call == "release" and row.at == ready[message],
-                     row, "another end of the delay")
-            ready.pop(message, None)
-            if row.is_received():
-                received.add(message)
-            elif row.leaves():
+            if row.leaves():
                 expiry.pop(message)
-    must(all(at > scenario.horizon for at in [*expiry.values(), *ready.values()]), None, "stays too long, or delayed")
+    must(all(at > scenario.horizon for at in expiry.values()), None, "stays too long")
 
 
 def fifo(log: Log, scenario: Scenario) -> None:
@@ -664,7 +700,8 @@ def what_is_under_way(log: Log, scenario: Scenario, ending: Ending) -> None:
 
 
 LAWS: tuple[Callable[[Log, Scenario], None], ...] = (
-    in_flight, the_end, dead_letters, receipts, time, delay_and_retention, fifo, deduplication, journeys, scalers, copies)
+    in_flight, the_end, dead_letters, receipts, time, delays, releases, longest_flight, retention, fifo, deduplication,
+    journeys, scalers, copies)
 
 
 ENDING_LAWS: tuple[Callable[[Log, Scenario, Ending], None], ...] = (what_is_left, what_is_under_way)

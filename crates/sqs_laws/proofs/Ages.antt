@@ -15,7 +15,8 @@ use Rattle.sqs_laws.specs.Laws.{Ages, is_fifo}
 use Rattle.sqs_laws.specs.Words.{EachRow, is_send, names, sent_by}
 use Rattle.sqs_laws.specs.Words as words
 use Rattle.sqs_laws.proofs.Moves.{Does, changes, comes, ends, receives, redrives, releases, stays}
-use Rattle.sqs_laws.proofs.Sends.{Says, WasSent, sends}
+use Rattle.sqs_laws.proofs.Sends.{WasSent, send_law, sends}
+use Rattle.sqs_laws.proofs.Slots.{Holds, of_there}
 use Rattle.sqs_laws.proofs.Worlds.{every_row_by}
 
 -- what the law says of a row
@@ -34,10 +35,10 @@ not_ended r l = (or_parts (is_deleted r.answer || is_expired r.answer) (words.is
 says_none : (s : Scenario) (rows : List Row) (r : Row) → (is_deleted r.answer || is_expired r.answer) ≡ false → Tells s rows r
 says_none s rows r n m e by x = record { age = λ t. cc; over = λ t. let no = (or_parts (is_deleted r.answer) (is_expired r.answer) n).1 in cc }
 
-told_by : (s : Scenario) (key : Key) (rows : List Row) (q : Queue) (r : Row) (p : Queue) → r.key ≡ key → r.queue ≡ q.site → Says s rows q → Does key q r p → Tells s rows r
+told_by : (s : Scenario) (key : Key) (rows : List Row) (q : Queue) (r : Row) (p : Queue) → r.key ≡ key → r.queue ≡ q.site → Holds s (send_law s) rows q → Does key q r p → Tells s rows r
 told_by s key rows q r p k i h (ends d) m e by x =
     let is : id_of q d.number ≡ m = cc in
-    let sent : WasSent s (is_fifo q.settings.kind) d.one by = h.told d.number d.one d.names.there by (subst (λ y. sent_by y rows ≡ Some by) (sym is) x) in
+    let sent : WasSent s (is_fifo q.settings.kind) d.one by = of_there s (send_law s) rows q h d.number d.one d.names.there by (subst (λ y. sent_by y rows ≡ Some by) (sym is) x) in
     let now : r.key.at ≡ key.at = ap (λ (y : Key). y.at) k in
     record {
       age = λ t. d.age sent.source t ∙ ap (λ n. details.Age (n - d.one.enqueued)) (sym now) ∙ ap (λ n. details.Age (r.key.at - n)) sent.enqueued;
@@ -56,7 +57,7 @@ told_by s key rows q r p k i h (releases d) m e by x = says_none s rows r (not_e
 -- the law
 pub ages_are_told : (s : Scenario) (x : Run) → IsRunOf s x → Ages s x.rows
 ages_are_told s x is =
-    let each : EachRow x.rows (Tells s) = every_row_by s (sends s) (Tells s) (λ rows key q r p d g k h j. told_by s key rows q r p d.at_key d.at_site h d.does) x is in
+    let each : EachRow x.rows (Tells s) = every_row_by s (sends s) (Tells s) (λ rows key q r p now d g k h j. told_by s key rows q r p d.at_key d.at_site h d.does) x is in
     record {
       told = λ before r after e m i t by y. (each before r after e m i by y).age t;
       expiry = λ before r after e m i t by y. (each before r after e m i by y).over t;

@@ -1,10 +1,10 @@
 -- The rows of each call of a queue are a chain of single moves.
 use Rattle.std.specs.Prelude.{All, Bool, List, None, Option, Some, [], count_by, false, get_or, length, map, true, ℕ, ◌+◌, ◌-◌, ◌++◌, ◌<◌, ◌==◌, ◌∷◌, ◌≡◌, ◌≢◌, ◌≤◌}
-use Rattle.std.proofs.Common.{ap, arith, refl, subst, sym, ◌∙◌}
+use Rattle.std.proofs.Common.{ap, arith, refl, subst, sym, true≢false, ◌∙◌}
 use Rattle.std.proofs.lemmas.Bool.{eqb-true}
 use Rattle.std.proofs.lemmas.Bool.Decides.{nat_tests}
 use Rattle.std.proofs.lemmas.List.Sums.{sum_by-cons}
-use Rattle.std.proofs.lemmas.List.Elements.{All-head, All-tail}
+use Rattle.std.proofs.lemmas.List.Elements.{All-append, All-cons, All-head, All-nil, All-tail}
 use Rattle.sim_clock.specs.declared.key.Key.{Key}
 use Rattle.sim_clock.specs.Firsts.{changed, without}
 use Rattle.sqs_message.specs.declared.ids.MessageId.{MessageId}
@@ -30,10 +30,10 @@ use Rattle.sqs_model.proofs.Counts.{find_all, find_changed, find_picked, total, 
 use Rattle.sqs_model.proofs.Ledger.{bit}
 use Rattle.sqs_model.proofs.Giving.{find_apart}
 use Rattle.sqs_model.proofs.Numbered.{Apart, one_number, other_without}
-use Rattle.sqs_model.proofs.SiteAccounts.{IsFound}
-use Rattle.sqs_laws.specs.Laws.{is_fifo}
+use Rattle.sqs_laws.specs.Laws.{is_actor_of, is_fifo}
 use Rattle.sqs_laws.specs.Words as words
-use Rattle.sqs_laws.proofs.Moves.{Chain, IsNext, IsBehind, IsStocked, Move, Tells, chain_append, of_none, one_move, receives, redrives, releases}
+use Rattle.sqs_laws.specs.Sends.{milliseconds_or}
+use Rattle.sqs_laws.proofs.Moves.{FitsSender, IsAskedFor, Chain, IsNext, IsBehind, IsStocked, Move, Tells, chain_append, of_none, one_move, receives, redrives, releases, actors_of, asks_later}
 
 -- what a row tells, each as it computes
 pub tells : (r : Row) (a b c d e : Bool) → words.comes r ≡ a → words.received r ≡ b → words.changed r ≡ c → words.is_release r.kind ≡ d → words.leaves r ≡ e → Tells r a b c d e
@@ -146,13 +146,24 @@ module _ (key : Key) where
       (is_fifo q.settings.kind ≡ true → IsNext past q (got_row key c agent g) m.number m)
       × AreNext c agent timeout (past ++ got_row key c agent g ∷ []) ms gs (with_change q m.number (received key.at timeout))
 
-  of_next : (u : Scenario) (past : List Row) (c : Core) (agent : ℕ) (q : Queue) (m : Message) (g : Got) (x : Queue) → IsToldOf q.site m g → numbered m.number q.records ≡ Some m → (is_fifo q.settings.kind ≡ true → IsNext past q (got_row key c agent g) m.number m) → IsBehind u past q (got_row key c agent g) x
-  of_next u past c agent q m g x t s o =
+  -- a timeout that an actor asks for
+  abbrev pub AsksTimeout : Scenario → List Row → ℕ → Queue → ℕ → Type 0
+  AsksTimeout u past agent q timeout = (own : Option ℕ) × IsAskedFor u past agent key.at own × (timeout ≡ milliseconds_or q.settings.visibility own)
+
+  of_next : (u : Scenario) (past : List Row) (c : Core) (agent timeout : ℕ) (q : Queue) (m : Message) (g : Got) → AsksTimeout u past agent q timeout → IsToldOf q.site m g → numbered m.number q.records ≡ Some m → (is_fifo q.settings.kind ≡ true → IsNext past q (got_row key c agent g) m.number m) → IsBehind u past q (got_row key c agent g) (with_change q m.number (received key.at timeout))
+  of_next u past c agent timeout q m g a t s o =
       record {
         given = λ e. cc;
         sends = λ e. cc;
         enters = λ e. cc;
         repeats = λ e. cc;
+        arrives = λ e. cc;
+        timed = λ e n one i h.
+            let id : g.id ≡ id_of q n = cc in
+            let is : m.number ≡ n = sym (ap (λ (y : MessageId). y.number) t.id) ∙ ap (λ (y : MessageId). y.number) id in
+            let now : numbered m.number (with_change q m.number (received key.at timeout)).records ≡ Some (received key.at timeout m) = own_changed m.number (received key.at timeout) (λ y. refl) q.records m s in
+            let same : received key.at timeout m ≡ one = let found : Some (received key.at timeout m) ≡ Some one = sym now ∙ ap (λ k. numbered k (with_change q m.number (received key.at timeout)).records) is ∙ h in cc in
+            record { timeout = a.0; asked = a.1; release = ap (λ (y : Message). y.release) (sym same) ∙ ap (λ n. Some (key.at + n)) a.2 };
         next = λ e f n one i h.
             let id : g.id ≡ id_of q n = cc in
             let is : m.number ≡ n = sym (ap (λ (y : MessageId). y.number) t.id) ∙ ap (λ (y : MessageId). y.number) id in
@@ -161,24 +172,24 @@ module _ (key : Key) where
       }
 
   pub received_chain :
-      (u : Scenario) (past : List Row) (c : Core) (agent timeout : ℕ) (ms : List Message) (gots : List Got) (q : Queue) → c.queue.site ≡ q.site → AreToldOf q.site ms gots → Apart ms → Stand q ms
+      (u : Scenario) (past : List Row) (c : Core) (agent timeout : ℕ) (ms : List Message) (gots : List Got) (q : Queue) → AsksTimeout u past agent q timeout → c.queue.site ≡ q.site → AreToldOf q.site ms gots → Apart ms → Stand q ms
       → All (λ m. is_visible m ≡ true) ms → length ms ≤ q.settings.in_flight_limit - in_flight q → AreNext c agent timeout past ms gots q → Chain u past key q (map (got_row key c agent) gots) (all_received key.at timeout ms q)
-  received_chain u past c agent timeout [] [] q e t d s v l o = refl
-  received_chain u past c agent timeout (m ∷ ms) (g ∷ gs) q e t d s v l o =
+  received_chain u past c agent timeout [] [] q a e t d s v l o = refl
+  received_chain u past c agent timeout (m ∷ ms) (g ∷ gs) q a e t d s v l o =
       let x : Queue = with_change q m.number (received key.at timeout) in (
         x,
         one_received c agent timeout q m g e t.0 (All-head (λ y. numbered y.number q.records ≡ Some y) m ms s) (All-head (λ y. is_visible y ≡ true) m ms v) (omega (arith, l)),
-        of_next u past c agent q m g x t.0 (All-head (λ y. numbered y.number q.records ≡ Some y) m ms s) o.0,
-        received_chain u (past ++ got_row key c agent g ∷ []) c agent timeout ms gs x e t.1 d.1 (received_stand timeout q m ms d.0 (All-tail (λ y. numbered y.number q.records ≡ Some y) m ms s)) (All-tail (λ y. is_visible y ≡ true) m ms v) (omega (arith, l, received_more timeout q m (All-head (λ y. numbered y.number q.records ≡ Some y) m ms s) (All-head (λ y. is_visible y ≡ true) m ms v))) o.1,
+        of_next u past c agent timeout q m g a t.0 (All-head (λ y. numbered y.number q.records ≡ Some y) m ms s) o.0,
+        received_chain u (past ++ got_row key c agent g ∷ []) c agent timeout ms gs x (a.0, asks_later u past (got_row key c agent g ∷ []) agent key.at a.0 a.1, a.2) e t.1 d.1 (received_stand timeout q m ms d.0 (All-tail (λ y. numbered y.number q.records ≡ Some y) m ms s)) (All-tail (λ y. is_visible y ≡ true) m ms v) (omega (arith, l, received_more timeout q m (All-head (λ y. numbered y.number q.records ≡ Some y) m ms s) (All-head (λ y. is_visible y ≡ true) m ms v))) o.1,
       )
-  received_chain u past c agent timeout [] (g ∷ gs) q e t d s v l o = absurd t
-  received_chain u past c agent timeout (m ∷ ms) [] q e t d s v l o = absurd t
+  received_chain u past c agent timeout [] (g ∷ gs) q a e t d s v l o = absurd t
+  received_chain u past c agent timeout (m ∷ ms) [] q a e t d s v l o = absurd t
 
   -- a message that comes back
   back_when :
-      (u : Scenario) (past : List Row) (b : Bool) (o : Option Policy) (q : Queue) (d : Core) (n : ℕ) (m : Message) → d.queue.site ≡ q.site → q.settings.policy ≡ o → d.queue.settings.policy ≡ o → leaves o m ≡ b → numbered n q.records ≡ Some m
+      (u : Scenario) (past : List Row) (b : Bool) (o : Option Policy) (q : Queue) (d : Core) (n : ℕ) (m : Message) → d.queue.site ≡ q.site → q.settings.policy ≡ o → d.queue.settings.policy ≡ o → leaves o m ≡ b → numbered n q.records ≡ Some m → m.release ≡ Some key.at
       → Chain u past key q (came_back key d n (released_when b q n m).1).rows (released_when b q n m).0
-  back_when u past false o q d n m e p k l f =
+  back_when u past false o q d n m e p k l f w =
       one_move u past key q _ _
       (record {
         at_key = refl;
@@ -191,12 +202,13 @@ module _ (key : Key) where
               number = n;
               tells = tells _ false false false true false refl refl refl refl refl;
               names = record { there = f; message = ap (λ s. Some (record { site = s; number = n })) e; sure = refl };
+              due = w;
               lasts = ap (λ x. leaves x m) p ∙ l;
               after = refl;
             });
       }) (of_none u past q _ _ refl refl refl)
-  back_when u past true None q d n m e p k l f = cc
-  back_when u past true (Some policy) q d n m e p k l f =
+  back_when u past true None q d n m e p k l f w = cc
+  back_when u past true (Some policy) q d n m e p k l f w =
       let rows : List Row = (redrive_by (Some policy) key d n (redrive_of q m)).rows in
       subst (λ x. Chain u past key q (redrive_by x key d n (redrive_of q m)).rows (taken_out q n)) (sym k)
       (one_move u past key q _ _
@@ -212,6 +224,7 @@ module _ (key : Key) where
               policy = policy;
               tells = tells _ false false false false true refl refl refl refl refl;
               names = record { there = f; message = ap (λ s. Some (record { site = s; number = n })) e; sure = refl };
+              due = w;
               by = p;
               worn = l;
               out = refl;
@@ -221,10 +234,10 @@ module _ (key : Key) where
             });
       }) (of_none u past q _ _ refl refl refl))
 
-  -- a row about it leaves the site's queue and actors as they are
+  -- a row about it leaves the site's queue, actors and polls as they are
   pub record Told (d e : Core) : Type 0 where
     pub queue : e.queue ≡ d.queue
-    pub actors : e.actors ≡ d.actors
+    pub actors : actors_of e ≡ actors_of d
 
   redriven_told : (d : Core) (n : ℕ) (load : Load) (o : Option Policy) → Told d (redrive_by o key d n load).core
   redriven_told d n load None = record { queue = refl; actors = refl }
@@ -234,14 +247,30 @@ module _ (key : Key) where
   back_told d n None = record { queue = refl; actors = refl }
   back_told d n (Some load) = redriven_told d n load d.queue.settings.policy
 
+  -- what it sends is no forward of an actor
+  pub back_fits : (u : Scenario) (d : Core) (n : ℕ) (o : Option Load) → is_actor_of u d.queue.site ≡ false → All (FitsSender u) (came_back key d n o).sent
+  back_fits u d n None h = All-nil (FitsSender u)
+  back_fits u d n (Some load) h = redriven_fits d.queue.settings.policy
+    where
+      redriven_fits : (p : Option Policy) → All (FitsSender u) (redrive_by p key d n load).sent
+      redriven_fits None = All-nil (FitsSender u)
+      redriven_fits (Some p) = All-cons (FitsSender u) _ [] (λ e. absurd (true≢false (sym e ∙ h))) (All-nil (FitsSender u))
+
+  pub all_fit : (u : Scenario) (gots : List Got) (d : Core) → is_actor_of u d.queue.site ≡ false → All (FitsSender u) (all_came_back key gots d).sent
+  all_fit u [] d h = All-nil (FitsSender u)
+  all_fit u (g ∷ gs) d h =
+      let f : Effect = came_back key d g.id.number g.left in
+      All-append (FitsSender u) f.sent (all_came_back key gs f.core).sent (back_fits u d g.id.number g.left h)
+      (all_fit u gs f.core (ap (λ (q : Queue). is_actor_of u q.site) (back_told d g.id.number g.left).queue ∙ h))
+
   pub one_back :
-      (u : Scenario) (past : List Row) (q : Queue) (d : Core) (n : ℕ) (m : Message) → d.queue.site ≡ q.site → d.queue.settings ≡ q.settings → numbered n q.records ≡ Some m
+      (u : Scenario) (past : List Row) (q : Queue) (d : Core) (n : ℕ) (m : Message) → d.queue.site ≡ q.site → d.queue.settings ≡ q.settings → numbered n q.records ≡ Some m → m.release ≡ Some key.at
       → Chain u past key q (came_back key d n (released q n).1).rows (released q n).0
-  one_back u past q d n m e s f =
+  one_back u past q d n m e s f w =
       let same : d.queue.settings.policy ≡ q.settings.policy = ap (λ (x : QueueSettings). x.policy) s in
       let back : Queue × Option Load = released_when (leaves q.settings.policy m) q n m in
       subst (λ x. Chain u past key q (came_back key d n (released_found q n x).1).rows (released_found q n x).0) (sym f)
-      (back_when u past (leaves q.settings.policy m) q.settings.policy q d n m e refl same refl f)
+      (back_when u past (leaves q.settings.policy m) q.settings.policy q d n m e refl same refl f w)
 
   -- messages that come back one after another, each told with what left
   abbrev pub AreBack : Queue → List Message → List Got → Type 0
@@ -253,9 +282,13 @@ module _ (key : Key) where
   back_got q t [] = tt
   back_got q t (m ∷ ms) = (refl, refl, back_got q (released t m.number).0 ms)
 
-  -- each of them stands in the queue, whatever has changed of it
+  -- each of them stands in the queue, and is due now
+  abbrev pub IsDueNow : Option Message → Type 0
+  IsDueNow None = ⊥
+  IsDueNow (Some m) = m.release ≡ Some key.at
+
   abbrev pub AreThere : Queue → List Message → Type 0
-  AreThere q ms = All (λ m. IsFound (numbered m.number q.records)) ms
+  AreThere q ms = All (λ m. IsDueNow (numbered m.number q.records)) ms
 
   other_back_when : (b : Bool) (q : Queue) (n k : ℕ) (m : Message) → n ≢ k → numbered n (released_when b q k m).0.records ≡ numbered n q.records
   other_back_when true q n k m d = other_without k n q.records d
@@ -277,11 +310,11 @@ module _ (key : Key) where
   back_there q m ms d s =
       λ i e l.
       let x : Message = get_or ms i e in
-      subst IsFound (sym (other_back_found (numbered m.number q.records) q x.number m.number (d i e l))) (s i e l)
+      subst IsDueNow (sym (other_back_found (numbered m.number q.records) q x.number m.number (d i e l))) (s i e l)
 
-  found_by : (u : Scenario) (past : List Row) (q : Queue) (d : Core) (n : ℕ) (o : Option Message) → numbered n q.records ≡ o → IsFound o → d.queue.site ≡ q.site → d.queue.settings ≡ q.settings → Chain u past key q (came_back key d n (released q n).1).rows (released q n).0
+  found_by : (u : Scenario) (past : List Row) (q : Queue) (d : Core) (n : ℕ) (o : Option Message) → numbered n q.records ≡ o → IsDueNow o → d.queue.site ≡ q.site → d.queue.settings ≡ q.settings → Chain u past key q (came_back key d n (released q n).1).rows (released q n).0
   found_by u past q d n None f t e s = absurd t
-  found_by u past q d n (Some m) f t e s = one_back u past q d n m e s f
+  found_by u past q d n (Some m) f t e s = one_back u past q d n m e s f t
 
   pub back_chain :
       (u : Scenario) (past : List Row) (ms : List Message) (gots : List Got) (q : Queue) (d : Core) → d.queue.site ≡ q.site → d.queue.settings ≡ q.settings → AreBack q ms gots → Apart ms → AreThere q ms
@@ -292,12 +325,12 @@ module _ (key : Key) where
       let f : Effect = came_back key d g.id.number g.left in
       let same : Told d f.core = back_told d g.id.number g.left in
       let frame = frame_found (numbered m.number q.records) q m.number in
-      let one : Chain u past key q (came_back key d m.number (released q m.number).1).rows x = found_by u past q d m.number (numbered m.number q.records) refl (All-head (λ y. IsFound (numbered y.number q.records)) m ms t) e s in
+      let one : Chain u past key q (came_back key d m.number (released q m.number).1).rows x = found_by u past q d m.number (numbered m.number q.records) refl (All-head (λ y. IsDueNow (numbered y.number q.records)) m ms t) e s in
       let here : Chain u past key q f.rows x = subst (λ n. Chain u past key q (came_back key d n g.left).rows x) (sym b.0) (subst (λ l. Chain u past key q (came_back key d m.number l).rows x) (sym b.1) one) in
       let site : f.core.queue.site ≡ x.site = ap (λ (y : Queue). y.site) same.queue ∙ e ∙ sym frame.0 in
       let settings : f.core.queue.settings ≡ x.settings = ap (λ (y : Queue). y.settings) same.queue ∙ s ∙ sym frame.1 in
       chain_append u past key f.rows (all_came_back key gs f.core).rows q x (all_released ms x) here
-      (back_chain u (past ++ f.rows) ms gs x f.core site settings b.2 a.1 (back_there q m ms a.0 (All-tail (λ y. IsFound (numbered y.number q.records)) m ms t)))
+      (back_chain u (past ++ f.rows) ms gs x f.core site settings b.2 a.1 (back_there q m ms a.0 (All-tail (λ y. IsDueNow (numbered y.number q.records)) m ms t)))
   back_chain u past [] (g ∷ gs) q d e s b a t = absurd b
   back_chain u past (m ∷ ms) [] q d e s b a t = absurd b
 

@@ -1,9 +1,9 @@
 -- The rows of a handling are a chain of single moves.
-use Rattle.std.specs.Prelude.{All, List, None, Option, Result, Some, [], false, find, ℕ, ◌+◌, ◌++◌, ◌∷◌, ◌≡◌}
-use Rattle.std.proofs.Common.{ap, refl, subst, sym, ◌∙◌}
+use Rattle.std.specs.Prelude.{All, List, None, Option, Result, Some, [], false, find, ℕ, ◌+◌, ◌++◌, ◌∷◌, ◌≡◌, ◌≤◌}
+use Rattle.std.proofs.Common.{ap, arith, inl, refl, subst, sym, ◌∙◌, true}
 use Rattle.std.proofs.lemmas.List.{append-nil, append_assoc}
-use Rattle.std.proofs.lemmas.List.Elements.{All-weaker}
-use Rattle.sim_clock.specs.declared.key.Class.TheVariants.{Expiry, Wake}
+use Rattle.std.proofs.lemmas.List.Elements.{All-append, All-drop, All-nil, All-push, All-weaker}
+use Rattle.sim_clock.specs.declared.key.Class.TheVariants.{Expiry, Release, Wake}
 use Rattle.sim_clock.specs.declared.key.Key.{Key}
 use Rattle.sqs_message.specs.declared.message.Message.{Message}
 use Rattle.sqs_message.specs.declared.row.Row.{Row}
@@ -16,45 +16,86 @@ use Rattle.sqs_model.specs.declared.acts.Answer.{Answer}
 use Rattle.sqs_model.specs.declared.acts.Answer.TheVariants as told_by
 use Rattle.sqs_model.specs.declared.acts.Standing.{Standing}
 use Rattle.sqs_model.specs.Actor.{Actor, next}
-use Rattle.sqs_model.specs.Acts.{act_made, given, send_made, sends, with_poll}
+use Rattle.sqs_model.specs.declared.agents.ActorSettings.{ActorSettings}
+use Rattle.sqs_message.specs.declared.row.RowAnswer.TheVariants as answers
+use Rattle.sqs_model.specs.Acts.{act_made, given, receive_row, send_made, sends, with_poll}
 use Rattle.sqs_model.specs.Arrive.{arrived}
 use Rattle.sqs_model.specs.Queue.{Queue, numbered}
 use Rattle.sqs_model.specs.Receive.{give_most}
 use Rattle.sqs_model.specs.Return.{released}
 use Rattle.sqs_model.specs.Scenario.{Scenario}
-use Rattle.sqs_model.specs.Site.{Core, Effect, Site, actor_numbered, is_actor, says, with_actor}
-use Rattle.sqs_model.specs.Step.{arrival_done, handle_expiry, handle_step, handled, is_arrival, release_done}
-use Rattle.sqs_model.proofs.CallWalk.{IsDone, CallLaw, DueLaw, IsNameless, IsTold, handled_goes}
-use Rattle.sqs_model.proofs.Counts.{all_changed, find_all}
+use Rattle.sqs_model.specs.Site.{Core, Effect, Poll, Site, has_key, is_task, task_numbered, with_task, actor_numbered, is_actor, says, with_actor}
+use Rattle.sqs_model.specs.Step.{arrival_done, ends_at, handled_when, handle_expiry, handled, is_arrival, release_done}
+use Rattle.sqs_laws.specs.Laws.{is_actor_of}
+use Rattle.sqs_redrive.specs.declared.transfers.Outbound.{Outbound}
+use Rattle.sqs_redrive.specs.Transfers.{transfer_key}
+use Rattle.sim_clock.proofs.Least.{key_tied}
+use Rattle.sqs_model.specs.Task.{Task}
+use Rattle.sqs_model.proofs.Forwards.{CarriesForward, SendsForwards, next_forwards}
+use Rattle.sqs_model.proofs.Sending.{IsForward}
+use Rattle.sqs_model.proofs.CallWalk.{effect_of, IsDone, CallLaw, DueLaw, IsNameless, IsTold, handled_goes}
+use Rattle.sqs_model.proofs.Counts.{all_changed, all_without, find_all, find_picked}
+use Rattle.sqs_model.proofs.Decisions.{next_decides}
+use Rattle.sqs_model.proofs.Members.{In, all_each, in_right}
+use Rattle.sqs_model.proofs.Sites.{each_all}
 use Rattle.sqs_model.proofs.SiteAccounts.{IsDueThere, IsFound}
 use Rattle.sqs_laws.proofs.Gives.{AreOfScenario, Fits, HasActed, HasSent, IsAwake, IsNoProducer, MayGive, other_acted, polled_fits, standing, stands, turn_gives, turned_found}
 use Rattle.sqs_laws.proofs.Giving.{AreKnown, IsGiven, most_given}
-use Rattle.sqs_laws.proofs.Holding.{HearsOfKnown, IsInformed, ServesKnown, informed_later, known_later, next_acts}
-use Rattle.sqs_laws.proofs.Numbers.{IsOver}
-use Rattle.sqs_laws.proofs.Moves.{Chain, IsStocked, Keeps, chain_append, chain_keeps, one_move}
-use Rattle.sqs_laws.proofs.Rows.{nameless_none, IsChain, arrived_chain, change_chain, delete_chain, expiry_chain, quiet_move, release_chain, sends_chain, serve_chain, step_chain}
+use Rattle.sqs_laws.proofs.Holding.{AsksOwn, HearsOfKnown, IsInformed, ServesKnown, informed_later, known_later, next_acts}
+use Rattle.sqs_laws.proofs.Numbers.{AreOver}
+use Rattle.sqs_laws.proofs.Polled.{IsPolled, asks_now, polled_asks, polled_later, waits_now}
+use Rattle.sqs_laws.proofs.Moves.{FitsSender, IsAskedFor, Chain, IsStocked, Keeps, chain_append, chain_keeps, one_move, asks_later}
+use Rattle.sqs_laws.proofs.Rows.{step_of, stepped_task, nameless_none, IsChain, arrived_chain, change_chain, delete_chain, expiry_chain, quiet_move, release_chain, sends_chain, serve_chain, step_chain}
 
--- a site whose queue's messages are in order, and whose actors hold only messages of it
-pub record IsInOrder (u : Scenario) (c : Core) : Type 0 where
+-- a site whose queue's messages are in order, whose actors hold only messages of it, and whose polls were asked for
+pub record IsInOrder (u : Scenario) (rows : List Row) (c : Core) : Type 0 where
   pub stocked : IsStocked c.queue
   pub numbers : AreOfScenario u c.actors
   pub actors : All (IsInformed c.queue.site c.queue.arrivals) c.actors
+  pub polls : All (IsPolled u rows) c.polls
+  pub tasks : All (λ t. is_actor_of u t.number ≡ false) c.tasks
 
-module _ (u : Scenario) (past : List Row) (key : Key) (start : Queue) (fine : IsStocked start) where
+pub order_later : (u : Scenario) (rows more : List Row) (c : Core) → IsInOrder u rows c → IsInOrder u (rows ++ more) c
+order_later u rows more c h = record { stocked = h.stocked; numbers = h.numbers; actors = h.actors; polls = All-weaker (IsPolled u rows) (IsPolled u (rows ++ more)) (polled_later u rows more) c.polls h.polls; tasks = h.tasks }
+
+module _ (u : Scenario) (past : List Row) (key : Key) (start : Queue) (fine : IsStocked start) (home : is_actor_of u start.site ≡ false) where
+  -- a poll that was asked for, and has not ended
+  abbrev pub IsOpen : List Row → Poll → Type 0
+  IsOpen rows p = IsPolled u rows p × (key.at ≤ p.end)
+
+  open_later : (rows more : List Row) (polls : List Poll) → All (IsOpen (past ++ rows)) polls → All (IsOpen (past ++ (rows ++ more))) polls
+  open_later rows more polls h =
+      subst (λ r. All (IsOpen r) polls) (append_assoc past rows more)
+      (All-weaker (IsOpen (past ++ rows)) (IsOpen ((past ++ rows) ++ more)) (λ p x. (polled_later u (past ++ rows) more p x.0, x.1)) polls h)
+
   -- after some rows
   pub record At (rows : List Row) (c : Core) : Type 0 where
     pub chain : Chain u past key start rows c.queue
     pub numbers : AreOfScenario u c.actors
     pub actors : All (IsInformed c.queue.site c.queue.arrivals) c.actors
+    pub polls : All (IsOpen (past ++ rows)) c.polls
+    pub tasks : All (λ t. is_actor_of u t.number ≡ false) c.tasks
 
   abbrev pub After : List Row → Effect → Type 0
-  After rows e = At (rows ++ e.rows) e.core
+  After rows e = At (rows ++ e.rows) e.core × All (FitsSender u) e.sent
+
+  none_sent : All (FitsSender u) []
+  none_sent = All-nil (FitsSender u)
 
   kept : (rows : List Row) (c : Core) → At rows c → Keeps start c.queue
   kept rows c h = chain_keeps u past key rows start c.queue h.chain fine
 
+  here : (rows : List Row) (c : Core) → At rows c → is_actor_of u c.queue.site ≡ false
+  here rows c h = ap (is_actor_of u) (sym (kept rows c h).site) ∙ home
+
   stocked : (rows : List Row) (c : Core) → At rows c → IsStocked c.queue
   stocked rows c h = (kept rows c h).stocked
+
+  -- a task that starts or is cancelled
+  with_one : (rows : List Row) (c : Core) (n : ℕ) (t x : Task) → task_numbered n c ≡ Some t → x.number ≡ t.number → At rows c → At rows (with_task c x)
+  with_one rows c n t x e f h =
+      let own : is_actor_of u t.number ≡ false = find_all (is_task n) (λ y. is_actor_of u y.number ≡ false) c.tasks t h.tasks e in
+      record { chain = h.chain; numbers = h.numbers; actors = h.actors; polls = h.polls; tasks = all_changed (is_task x.number) (λ y. is_actor_of u y.number ≡ false) (λ _. x) (λ _ _. ap (is_actor_of u) f ∙ own) c.tasks h.tasks }
 
   -- what actors hold, of a queue that follows another
   informed : (c : Core) (q : Queue) (actors : List Actor) → Keeps c.queue q → actors ≡ c.actors → All (IsInformed c.queue.site c.queue.arrivals) c.actors → All (IsInformed q.site q.arrivals) actors
@@ -63,23 +104,31 @@ module _ (u : Scenario) (past : List Row) (key : Key) (start : Queue) (fine : Is
       subst (λ others. All (IsInformed q.site q.arrivals) others) (sym e) (subst (λ s. All (IsInformed s q.arrivals) c.actors) k.site later)
 
   extends : (rows : List Row) (c : Core) (e : Effect) → At rows c → IsChain u (past ++ rows) key c e → After rows e
-  extends rows c e h i =
-      record {
-        chain = chain_append u past key rows e.rows start c.queue e.core.queue h.chain i.chain;
-        numbers = subst (AreOfScenario u) (sym i.actors) h.numbers;
-        actors = informed c e.core.queue e.core.actors (chain_keeps u (past ++ rows) key e.rows c.queue e.core.queue i.chain (stocked rows c h)) i.actors h.actors;
-      }
+  extends rows c e h i = (
+    record {
+      chain = chain_append u past key rows e.rows start c.queue e.core.queue h.chain i.chain;
+      numbers = subst (AreOfScenario u) (sym (ap (λ x. x.0) i.actors)) h.numbers;
+      actors = informed c e.core.queue e.core.actors (chain_keeps u (past ++ rows) key e.rows c.queue e.core.queue i.chain (stocked rows c h)) (ap (λ x. x.0) i.actors) h.actors;
+      polls = subst (All (IsOpen (past ++ (rows ++ e.rows)))) (sym (ap (λ x. x.1) i.actors)) (open_later rows e.rows c.polls h.polls);
+      tasks = subst (All (λ t. is_actor_of u t.number ≡ false)) (sym (ap (λ x. x.2) i.actors)) h.tasks;
+    },
+    i.sent,
+  )
 
   at_rows : (rows more : List Row) (c : Core) → rows ≡ more → At rows c → At more c
   at_rows rows more c e h = subst (λ r. At r c) e h
 
   quietly : (rows : List Row) (c d : Core) (r : Row) → IsNameless key c r → At rows c → At rows d → After rows (says d r)
-  quietly rows c d r i h k =
-      record {
-        chain = chain_append u past key rows (r ∷ []) start d.queue d.queue k.chain (one_move u (past ++ rows) key d.queue r d.queue (quiet_move key c d.queue r (sym (kept rows c h).site ∙ (kept rows d k).site) i) (nameless_none u (past ++ rows) d.queue r i));
-        numbers = k.numbers;
-        actors = k.actors;
-      }
+  quietly rows c d r i h k = (
+    record {
+      chain = chain_append u past key rows (r ∷ []) start d.queue d.queue k.chain (one_move u (past ++ rows) key d.queue r d.queue (quiet_move key c d.queue r (sym (kept rows c h).site ∙ (kept rows d k).site) i) (nameless_none u (past ++ rows) d.queue r i));
+      numbers = k.numbers;
+      actors = k.actors;
+      polls = open_later rows (r ∷ []) d.polls k.polls;
+      tasks = k.tasks;
+    },
+    none_sent,
+  )
 
   abbrev pub Hears : Core → List Got → Type 0
   Hears c gots = AreKnown c.queue.site c.queue.arrivals gots
@@ -87,14 +136,18 @@ module _ (u : Scenario) (past : List Row) (key : Key) (start : Queue) (fine : Is
   later_heard : (c : Core) (q : Queue) (gots : List Got) → Keeps c.queue q → AreKnown c.queue.site c.queue.arrivals gots → AreKnown q.site q.arrivals gots
   later_heard c q gots k h = subst (λ s. AreKnown s q.arrivals gots) k.site (known_later c.queue.site c.queue.arrivals q.arrivals k.arrivals gots h)
 
-  givingly : (rows : List Row) (c : Core) (agent max : ℕ) (timeout : Option ℕ) (set : ℕ) → At rows c
+  -- who asks for what is received
+  abbrev pub AsksAfter : List Row → ℕ → Option ℕ → Type 0
+  AsksAfter rows agent timeout = IsAskedFor u (past ++ rows) agent key.at timeout
+
+  givingly : (rows : List Row) (c : Core) (agent max : ℕ) (timeout : Option ℕ) (set : ℕ) → AsksAfter rows agent timeout → At rows c
       → After rows (given key c agent timeout (give_most c.queue key.at max timeout set)) × Hears (given key c agent timeout (give_most c.queue key.at max timeout set)).core (give_most c.queue key.at max timeout set).1
-  givingly rows c agent max timeout set h =
+  givingly rows c agent max timeout set a h =
       let x : Queue × List Got = give_most c.queue key.at max timeout set in
       let e : Effect = given key c agent timeout x in
       let behind : List Row = past ++ rows in
-      let g : IsGiven u behind key c agent timeout x = most_given u behind key c agent timeout max set (stocked rows c h) in (
-        extends rows c e h (record { chain = g.chain; actors = g.actors }),
+      let g : IsGiven u behind key c agent timeout a (here rows c h) x = most_given u behind key c agent timeout a (here rows c h) max set (stocked rows c h) in (
+        extends rows c e h (record { chain = g.chain; actors = g.actors; sent = g.sent }),
         later_heard c e.core.queue x.1 (chain_keeps u behind key e.rows c.queue e.core.queue g.chain (stocked rows c h)) g.known,
       )
 
@@ -116,7 +169,7 @@ module _ (u : Scenario) (past : List Row) (key : Key) (start : Queue) (fine : Is
 
   -- what an act may be: it serves a message that is known, and gives the group that is told
   abbrev pub Allows : Core → Actor → Act → Type 0
-  Allows c a x = ServesKnown c.queue.site c.queue.arrivals x × MayGive u key.at a x
+  Allows c a x = ServesKnown c.queue.site c.queue.arrivals (AsksOwn a.settings.role) x × MayGive u key.at a x × SendsForwards x
 
   turning : (rows : List Row) (n : ℕ) (c : Core) (a : Actor) (w : Answer) → actor_numbered n c ≡ Some a → IsTold Hears (IsAwake key) (HasActed u key) c n w → At rows c
       → At rows (with_actor c (next a key.at w).1) × Stands c.queue (with_actor c (next a key.at w).1).actors (next a key.at w).1 × Allows (with_actor c (next a key.at w).1) (next a key.at w).1 (next a key.at w).0
@@ -125,16 +178,16 @@ module _ (u : Scenario) (past : List Row) (key : Key) (start : Queue) (fine : Is
       let x = next_acts c.queue.site c.queue.arrivals key.at a w one (told_known c n w t) in
       let b : Actor = (next a key.at w).1 in
       let f : Fits u b = standing u c.actors key n a w e h.numbers (told_acted c n a w e t) in (
-        record { chain = h.chain; numbers = stands u c.actors b f h.numbers; actors = all_changed (is_actor b.number) (IsInformed c.queue.site c.queue.arrivals) (λ _. b) (λ _ _. x.informed) c.actors h.actors },
+        record { chain = h.chain; numbers = stands u c.actors b f h.numbers; actors = all_changed (is_actor b.number) (IsInformed c.queue.site c.queue.arrivals) (λ _. b) (λ _ _. x.informed) c.actors h.actors; polls = h.polls; tasks = h.tasks },
         (x.informed, f, turned_found u c.actors key n a w e),
-        (x.serves, turn_gives u c.actors key n a w e h.numbers f (told_awake c n a w e t)),
+        (subst (λ (y : ActorSettings). ServesKnown c.queue.site c.queue.arrivals (AsksOwn y.role) (next a key.at w).0) (sym (next_decides key.at a w).settings) x.serves, turn_gives u c.actors key n a w e h.numbers f (told_awake c n a w e t), next_forwards a key.at w),
       )
 
-  polling : (rows : List Row) (a : Actor) (c : Core) (max wait : ℕ) (timeout : Option ℕ) → Stands c.queue c.actors a → At rows c → At rows (with_poll key a c max wait timeout)
-  polling rows a c max wait timeout (i, f, e) h =
+  polling : (rows : List Row) (a : Actor) (c : Core) (max wait : ℕ) (timeout : Option ℕ) → Stands c.queue c.actors a → Allows c a (acts.Receive max wait timeout) → (w : Row) → In (past ++ rows) w → w.key.at ≡ key.at → At rows c → At rows (with_poll key a c max wait timeout)
+  polling rows a c max wait timeout (i, f, e) m w n o h =
       let b : Actor = record a { polls = a.polls + 1 } in
       let j : IsInformed c.queue.site c.queue.arrivals b = record { held = i.held; done = i.done; failed = i.failed } in
-      record { chain = h.chain; numbers = stands u c.actors b (polled_fits u a (a.polls + 1) f) h.numbers; actors = all_changed (is_actor b.number) (IsInformed c.queue.site c.queue.arrivals) (λ _. b) (λ _ _. j) c.actors h.actors }
+      record { chain = h.chain; numbers = stands u c.actors b (polled_fits u a (a.polls + 1) f) h.numbers; actors = all_changed (is_actor b.number) (IsInformed c.queue.site c.queue.arrivals) (λ _. b) (λ _ _. j) c.actors h.actors; polls = All-push (IsOpen (past ++ rows)) c.polls _ h.polls (waits_now u (past ++ rows) key.at max wait _ a.settings f.settings m.0 m.1.1 w n o refl, omega arith); tasks = h.tasks }
 
   -- an actor that has acted
   sent_leaves : (a : Actor) (c : Core) (body : List ℕ) (x : Result Sent Refusal × Queue) → (send_made key a c body x).effect.core.actors ≡ c.actors
@@ -150,7 +203,7 @@ module _ (u : Scenario) (past : List Row) (key : Key) (start : Queue) (fine : Is
       let found : find (is_actor a.number) c.actors ≡ Some b = ap (λ l. find (is_actor a.number) l) (sym (sent_leaves a c body (sends c.queue.settings.kind c.queue key.at body delay group id))) ∙ y in
       let is : a ≡ b = let both : Some a ≡ Some b = sym e ∙ found in cc in
       subst (λ (z : Actor). HasSent u.seed z.settings.role key.at z) is m.1
-  acting a c (acts.Receive max wait timeout) i f e m n = others_act a c (acts.Receive max wait timeout) f m n
+  acting a c (acts.Receive max wait timeout) i f e m n = others_act a c (acts.Receive max wait timeout) f m.0 n
   acting a c (acts.Delete text) i f e m n = others_act a c (acts.Delete text) f m n
   acting a c (acts.Change text timeout) i f e m n = others_act a c (acts.Change text timeout) f m n
   acting a c (acts.Prolong text timeout) i f e m n = others_act a c (acts.Prolong text timeout) f m n
@@ -168,60 +221,78 @@ module _ (u : Scenario) (past : List Row) (key : Key) (start : Queue) (fine : Is
         At = At;
         Goes = After;
         after = λ rows e. rows ++ e.rows;
-        done = λ rows e g. g;
-        joins = λ rows e f g h. at_rows ((rows ++ e.rows) ++ (f e.core).rows) (rows ++ (e.rows ++ (f e.core).rows)) (f e.core).core (append_assoc rows e.rows (f e.core).rows) h;
-        nothing = λ rows c h. at_rows rows (rows ++ []) c (sym (append-nil rows)) h;
+        done = λ rows e g. g.0;
+        joins = λ rows e f g h. (at_rows ((rows ++ e.rows) ++ (f e.core).rows) (rows ++ (e.rows ++ (f e.core).rows)) (f e.core).core (append_assoc rows e.rows (f e.core).rows) h.0, All-append (FitsSender u) e.sent (f e.core).sent g.1 h.1);
+        nothing = λ rows c h. (at_rows rows (rows ++ []) c (sym (append-nil rows)) h, none_sent);
         quiet = quietly;
         Hears = Hears;
         hears_none = λ c. tt;
         Woken = IsAwake key;
         Acted = HasActed u key;
+        Asks = AsksAfter;
+        later = λ rows e agent timeout a. subst (λ r. IsAskedFor u r agent key.at timeout) (append_assoc past rows e.rows) (asks_later u (past ++ rows) e.rows agent key.at timeout a);
+        asked = λ rows a c max wait timeout s m h. asks_now u (past ++ rows) a.number key.at max wait timeout a.settings s.1.settings m.0 m.1.1;
+        waiting = λ rows c h. each_all (λ p. AsksAfter rows p.actor p.timeout) c.polls (All-weaker (IsOpen (past ++ rows)) (λ p. AsksAfter rows p.actor p.timeout) (λ p x. polled_asks u (past ++ rows) key.at p x.1 x.0) c.polls h.polls);
         gives = givingly;
-        changes = λ rows a c text timeout h. extends rows c _ h (change_chain u (past ++ rows) key a c text timeout (stocked rows c h));
+        changes = λ rows a c text timeout h. extends rows c _ h (change_chain u (past ++ rows) key a c text timeout (stocked rows c h) (here rows c h));
         deletes = λ rows a c text h. extends rows c _ h (delete_chain u (past ++ rows) key a c text (stocked rows c h));
-        sends = λ rows a c body delay group id m h. extends rows c _ h (sends_chain u (past ++ rows) key c.queue.settings.kind a c body delay group id refl m.1.0 (stocked rows c h));
-        draws = λ rows c hosts h. record { chain = h.chain; numbers = h.numbers; actors = h.actors };
-        starts = λ rows c n t e h. record { chain = h.chain; numbers = h.numbers; actors = h.actors };
-        cancels = λ rows c n t e h. record { chain = h.chain; numbers = h.numbers; actors = h.actors };
+        sends = λ rows a c body delay group id m h. extends rows c _ h (sends_chain u (past ++ rows) key a c (record { body = body; delay = delay; group = group; id = id }) m.1.0 (stocked rows c h) c.queue.settings.kind refl);
+        draws = λ rows c hosts h. record { chain = h.chain; numbers = h.numbers; actors = h.actors; polls = h.polls; tasks = h.tasks };
+        starts = λ rows c n t e h. with_one rows c n t _ e refl h;
+        cancels = λ rows c n t e h. with_one rows c n t _ e refl h;
         Stands = Stands;
         May = Allows;
         turns = turning;
-        acted = λ rows a c x i s m h g. acting a c x i s.1 s.2 m.1 g.numbers;
-        polls = λ rows a c max wait timeout e s h. polling rows a c max wait timeout s h;
-        serves = λ rows a c id r failed o m h. extends rows c _ h (serve_chain u (past ++ rows) key a c id r failed o m.0.0 m.0.1);
+        acted = λ rows a c x i s m h g. acting a c x i s.1 s.2 m.1 g.0.numbers;
+        polls = λ rows a c max wait timeout e s m i h.
+            let row : Row = receive_row key c a.number answers.Wait in
+            let within : In (past ++ (rows ++ row ∷ [])) row = in_right past (rows ++ row ∷ []) row (in_right rows (row ∷ []) row (inl refl)) in
+            (polling (rows ++ row ∷ []) a c max wait timeout s m row within refl (quietly rows c c row i h h).0, none_sent);
+        serves = λ rows a c id r failed o m h. extends rows c _ h (serve_chain u (past ++ rows) key a c id r failed o m.0.0 m.0.1 (all_each CarriesForward (FitsSender u) (λ x y _. y) o m.2));
       }
 
-  expires_by : (rows : List Row) (c : Core) (o : Option Message) → numbered key.number c.queue.records ≡ o → IsFound o → IsOver key c → At rows c → After rows (handle_expiry key c)
+  expires_by : (rows : List Row) (c : Core) (o : Option Message) → numbered key.number c.queue.records ≡ o → IsFound o → AreOver Expiry key c → At rows c → After rows (handle_expiry key c)
   expires_by rows c None f t l h = absurd t
-  expires_by rows c (Some m) f t l h = extends rows c (handle_expiry key c) h (expiry_chain u (past ++ rows) key c m f (l m f))
+  expires_by rows c (Some m) f t l h = extends rows c (handle_expiry key c) h (expiry_chain u (past ++ rows) key c m f ((l m f).retention refl))
 
-  releases_by : (rows : List Row) (c : Core) (o : Option Message) → numbered key.number c.queue.records ≡ o → IsFound o → At rows c → After rows (release_done key c (released c.queue key.number))
-  releases_by rows c None f t h = absurd t
-  releases_by rows c (Some m) f t h = extends rows c (release_done key c (released c.queue key.number)) h (release_chain u (past ++ rows) key c m (stocked rows c h) f)
+  releases_by : (rows : List Row) (c : Core) (o : Option Message) → numbered key.number c.queue.records ≡ o → IsFound o → AreOver Release key c → At rows c → After rows (release_done key c (released c.queue key.number))
+  releases_by rows c None f t l h = absurd t
+  releases_by rows c (Some m) f t l h = extends rows c (release_done key c (released c.queue key.number)) h (release_chain u (past ++ rows) key c m (stocked rows c h) f ((l m f).release refl) (here rows c h))
 
   abbrev due : DueLaw key chains
   due =
       record {
-        IsDue = λ k c. IsDueThere key k c × (k ≡ Expiry → IsOver key c) × (k ≡ Wake → IsAwake key c key.agent);
+        IsDue = λ k c. IsDueThere key k c × AreOver k key c × (k ≡ Wake → IsAwake key c key.agent);
         woken = λ c d. d.2 refl;
-        answers = λ rows c h. record { chain = h.chain; numbers = h.numbers; actors = h.actors };
-        ends = λ rows c h. record { chain = h.chain; numbers = h.numbers; actors = h.actors };
-        expires = λ rows c d h. expires_by rows c (numbered key.number c.queue.records) refl d.0 (d.1 refl) h;
-        releases = λ rows c d h. releases_by rows c (numbered key.number c.queue.records) refl d.0 h;
-        Comes = λ rows o c. At rows c;
-        absent = λ rows c h. h;
-        arrives = λ rows o c h. extends rows c (arrival_done key o.load c (arrived c.queue key.at o.load)) h (arrived_chain u (past ++ rows) key c o.load (stocked rows c h));
-        samples = λ rows c h. record { chain = h.chain; numbers = h.numbers; actors = h.actors };
-        steps = λ rows c t e h. extends rows c (handle_step key c (Some t)) h (step_chain u (past ++ rows) key c t (stocked rows c h));
+        answers = λ rows c h. record { chain = h.chain; numbers = h.numbers; actors = h.actors; polls = All-drop (IsOpen (past ++ rows)) 1 c.polls h.polls; tasks = h.tasks };
+        ends = λ rows c h. record { chain = h.chain; numbers = h.numbers; actors = h.actors; polls = all_without (ends_at key) (IsOpen (past ++ rows)) c.polls h.polls; tasks = h.tasks };
+        expires = λ rows c d h. expires_by rows c (numbered key.number c.queue.records) refl d.0 d.1 h;
+        releases = λ rows c d h. releases_by rows c (numbered key.number c.queue.records) refl d.0 d.1 h;
+        Comes = λ rows o c. At rows c × ((x : Outbound) → o ≡ Some x → is_actor_of u key.agent ≡ true → IsForward x.load);
+        absent = λ rows c h. h.0;
+        arrives = λ rows o c h. extends rows c (arrival_done key o.load c (arrived c.queue key.at o.load)) h.0 (arrived_chain u (past ++ rows) key c o.load (h.1 o refl) (stocked rows c h.0));
+        samples = λ rows c h. record { chain = h.chain; numbers = h.numbers; actors = h.actors; polls = h.polls; tasks = h.tasks };
+        steps = λ rows c t e h.
+            let own : is_actor_of u t.number ≡ false = find_all (is_task key.agent) (λ x. is_actor_of u x.number ≡ false) c.tasks t h.tasks e in
+            let x = extends rows c (step_of u (past ++ rows) key c t) h (step_chain u (past ++ rows) key c t own (stocked rows c h)) in
+            (record { chain = x.0.chain; numbers = x.0.numbers; actors = x.0.actors; polls = x.0.polls; tasks = stepped_task u (past ++ rows) key c t h.tasks own }, x.1);
       }
 
 -- the rows of a handling at a site in order are a chain, which leaves it in order
-pub record IsMoved (u : Scenario) (past : List Row) (key : Key) (c : Core) (rows : List Row) (d : Core) : Type 0 where
+pub record IsMoved (u : Scenario) (past : List Row) (key : Key) (c : Core) (rows : List Row) (d : Core) (out : List Outbound) : Type 0 where
   pub chain : Chain u past key c.queue rows d.queue
-  pub order : IsInOrder u d
+  pub order : IsInOrder u (past ++ rows) d
+  pub sent : All (FitsSender u) out
 
-pub handled_moves : (u : Scenario) (past : List Row) (key : Key) (s : Site) → IsInOrder u s.core → (is_arrival key.class ≡ false → IsDueThere key key.class s.core) → (key.class ≡ Expiry → IsOver key s.core) → (key.class ≡ Wake → IsAwake key s.core key.agent) → IsMoved u past key s.core (handled key s).rows (handled key s).site.core
-handled_moves u past key s i d l w =
-    let start : At u past key s.core.queue i.stocked [] s.core = record { chain = refl; numbers = i.numbers; actors = i.actors } in
-    let h : At u past key s.core.queue i.stocked (handled key s).rows (handled key s).site.core = handled_goes key (chains u past key s.core.queue i.stocked) (due u past key s.core.queue i.stocked) [] s (λ e. ((d e, l, w), start)) (λ _. start) in
-    record { chain = h.chain; order = record { stocked = stocked u past key s.core.queue i.stocked (handled key s).rows (handled key s).site.core h; numbers = h.numbers; actors = h.actors } }
+pub handled_moves : (u : Scenario) (past : List Row) (key : Key) (s : Site) → IsInOrder u past s.core → is_actor_of u s.core.queue.site ≡ false → All (FitsSender u) s.arriving → All (λ p. key.at ≤ p.end) s.core.polls → (is_arrival key.class ≡ false → IsDueThere key key.class s.core) → AreOver key.class key s.core → (key.class ≡ Wake → IsAwake key s.core key.agent) → IsMoved u past key s.core (handled key s).rows (handled key s).site.core (handled key s).sent
+handled_moves u past key s i home fits n d l w =
+    let start : At u past key s.core.queue i.stocked home [] s.core = record { chain = refl; numbers = i.numbers; actors = i.actors; polls = subst (λ r. All (IsOpen u past key s.core.queue i.stocked home r) s.core.polls) (sym (append-nil past)) (λ j e k. (i.polls j e k, n j e k)); tasks = i.tasks } in
+    let came : (x : Outbound) → find (has_key key) s.arriving ≡ Some x → is_actor_of u key.agent ≡ true → IsForward x.load = λ x e t. find_all (has_key key) (FitsSender u) s.arriving x fits e (ap (λ (y : Key). is_actor_of u y.agent) (sym (key_tied key (transfer_key x) (find_picked (has_key key) s.arriving x e))) ∙ t) in
+    let g : After u past key s.core.queue i.stocked home [] (effect_of (handled key s)) = handled_goes key (chains u past key s.core.queue i.stocked home) (due u past key s.core.queue i.stocked home) [] s (λ e. ((d e, l, w), start)) (λ _. (start, came)) in
+    let h : At u past key s.core.queue i.stocked home (handled key s).rows (handled key s).site.core = g.0 in
+    record { chain = h.chain; sent = g.1; order = record { stocked = stocked u past key s.core.queue i.stocked home (handled key s).rows (handled key s).site.core h; numbers = h.numbers; actors = h.actors; polls = All-weaker (IsOpen u past key s.core.queue i.stocked home (past ++ (handled key s).rows)) (IsPolled u (past ++ (handled key s).rows)) (λ p x. x.0) (handled key s).site.core.polls h.polls; tasks = h.tasks } }
+
+-- what is on its way after it
+pub arriving_fits : (u : Scenario) (key : Key) (s : Site) → All (FitsSender u) s.arriving → All (FitsSender u) (handled key s).site.arriving
+unfolding handled
+arriving_fits u key s h = elim (is_arrival key.class) as (λ b. All (FitsSender u) (handled_when b key s).site.arriving) [ true ↦ all_without (has_key key) (FitsSender u) s.arriving h | false ↦ h ]

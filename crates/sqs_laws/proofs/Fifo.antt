@@ -20,9 +20,10 @@ use Rattle.sqs_laws.specs.Words.{EachRow, flight, flying, has_left}
 use Rattle.sqs_laws.specs.Words as words
 use Rattle.sqs_laws.proofs.Calls.{found_old}
 use Rattle.sqs_laws.proofs.End as end
-use Rattle.sqs_laws.proofs.Flights.{flights}
-use Rattle.sqs_laws.proofs.Moves.{Does, IsNext, IsBehind, IsStocked, Move, Receives, changes, comes, ends, receives, redrives, releases, stays}
-use Rattle.sqs_laws.proofs.Sends.{sends}
+use Rattle.sqs_laws.proofs.Flights.{flies_of, flights, rests_of}
+use Rattle.sqs_laws.proofs.Moves.{Does, IsNext, IsBehind, IsStocked, Move, Receives, changes, comes, ends, receives, redrives, releases, stays, received_by}
+use Rattle.sqs_laws.proofs.Sends.{send_law, sends}
+use Rattle.sqs_laws.proofs.Slots.{of_there}
 use Rattle.sqs_laws.proofs.Worlds.{RowLaw, both, every_row_by}
 
 module _ (s : Scenario) (sound : IsSoundScenario s) where
@@ -44,7 +45,7 @@ module _ (s : Scenario) (sound : IsSoundScenario s) where
         sym (ap (λ x. elim x as (λ _. Bool) [ None ↦ false | Some y ↦ is_fifo y.kind ]) own) ∙ e
 
     group_is : is_fifo q.settings.kind ≡ true → (i : ℕ) (m : Message) (g : List ℕ) → numbered i q.records ≡ Some m → WasGiven s rows (id_of q i) g → m.group ≡ Some g
-    group_is f i m g e (by, t, x, y, z) = (h.0.told i m e by t).group f sound.actors x y ∙ z
+    group_is f i m g e (by, t, x, y, z) = (of_there s (send_law s) rows q h.0 i m e by t).group f sound.actors x y ∙ z
 
     alike : (a b : Message) (g : List ℕ) → a.group ≡ Some g → b.group ≡ Some g → same_group a b ≡ true
     alike a b g x y = (same_text_decides a.group b.group).1 (x ∙ sym y)
@@ -54,43 +55,35 @@ module _ (s : Scenario) (sound : IsSoundScenario s) where
         record {
           earlier = λ l t.
               let old : x.number < q.arrivals = found_old q x.number x.one k x.names.there in
-              let gone : has_left (id_of q i) rows ≡ true = h.1.0.left i (omega (arith, l, old)) ∙ ap is_none e in
+              let gone : has_left (id_of q i) rows ≡ true = end.left_of s rows q h.1.0.1 i (omega (arith, l, old)) ∙ ap is_none e in
               absurd (true≢false (sym gone ∙ t));
-          later = λ l. h.1.1.rests i e;
+          later = λ l. rests_of s rows q h.1.1 i e;
         }
     other x i g f a b (Some m) e =
         let next : IsNext rows q r x.number x.one = o.next x.tells.received_so f x.number x.one x.names.message x.names.there in
         let same : same_group x.one m ≡ true = alike x.one m g (group_is f x.number x.one g x.names.there a) (group_is f i m g e b) in
         record {
           earlier = λ l t. next.before i m e same l;
-          later = λ l. h.1.1.flies i m e ∙ next.after i m e same l;
+          later = λ l. flies_of s rows q h.1.1 i m e ∙ next.after i m e same l;
         }
 
     of_site : (n : MessageId) → n.site ≡ r.queue → id_of q n.number ≡ n
     of_site n e = ap (λ y. record { site = y; number = n.number }) (sym d.at_site ∙ sym e)
 
-    not_received : words.received r ≡ false → (words.received r && fifo_at s r) ≡ true → ⊥
-    not_received a t = true≢false (sym (and_parts (words.received r) (fifo_at s r) t).0 ∙ a)
-
-    told_by : Does key q r p → Tells rows r
-    told_by (receives x) m e t n g w a b =
-        let is : id_of q x.number ≡ m = cc in
+    told_by : Tells rows r
+    told_by m e t n g w a b =
+        let both = and_parts (words.received r) (fifo_at s r) t in
+        let x = received_by key q r p d.does both.0 in
+        let is : id_of q x.number ≡ m = let named : Some (id_of q x.number) ≡ Some m = sym x.names.message ∙ e in cc in
         let that : id_of q n.number ≡ n = of_site n w in
-        let f : is_fifo q.settings.kind ≡ true = fifo (and_parts (words.received r) (fifo_at s r) t).1 in
         subst (IsAsTold rows r m) that
         (subst (λ y. IsAsTold rows r y (id_of q n.number)) is
-        (other x n.number g f (subst (λ y. WasGiven s rows y g) (sym is) a) (subst (λ y. WasGiven s rows y g) (sym that) b) (numbered n.number q.records) refl))
-    told_by (stays x) m e t n g w a b = absurd (not_received x.tells.received_so t)
-    told_by (comes x) m e t n g w a b = absurd (not_received x.tells.received_so t)
-    told_by (changes x) m e t n g w a b = absurd (not_received x.tells.received_so t)
-    told_by (releases x) m e t n g w a b = absurd (not_received x.tells.received_so t)
-    told_by (redrives x) m e t n g w a b = absurd (not_received x.tells.received_so t)
-    told_by (ends x) m e t n g w a b = absurd (not_received x.tells.received_so t)
+        (other x n.number g (fifo both.1) (subst (λ y. WasGiven s rows y g) (sym is) a) (subst (λ y. WasGiven s rows y g) (sym that) b) (numbered n.number q.records) refl))
 
   -- the law
   pub groups_are_in_order : (x : Run) → IsRunOf s x → FifoOrder s x.rows
   groups_are_in_order x is =
-      let each : EachRow x.rows Tells = every_row_by s told Tells (λ rows key q r p d g k h j. told_by rows key q r p d g k h d.does) x is in
+      let each : EachRow x.rows Tells = every_row_by s told Tells (λ rows key q r p now d g k h j. told_by rows key q r p d g k h) x is in
       record {
         before = λ before r after e m i t n g w a b l. (each before r after e m i t n g w a b).earlier l;
         after = λ before r after e m i t n g w a b l. (each before r after e m i t n g w a b).later l;
@@ -98,4 +91,4 @@ module _ (s : Scenario) (sound : IsSoundScenario s) where
 
 -- each send is what its actor gives
 pub sends_are_given : (s : Scenario) (x : Run) → IsRunOf s x → Sends s x.rows
-sends_are_given s x is = record { given = every_row_by s (sends s) (λ before r. (words.is_send r.kind && words.comes r) ≡ true → (a : ActorSettings) → slice_get s.actors (r.agent - length s.queues) ≡ Some a → IsSender a.role → (y : Given) × GivesAs s r.agent r.key.at y × (r.detail ≡ details.Digest (md5 y.body))) (λ rows key q r p d g k h j. g.sends) x is }
+sends_are_given s x is = record { given = every_row_by s (sends s) (λ before r. (words.is_send r.kind && words.comes r) ≡ true → (a : ActorSettings) → slice_get s.actors (r.agent - length s.queues) ≡ Some a → IsSender a.role → (y : Given) × GivesAs s r.agent r.key.at y × (r.detail ≡ details.Digest (md5 y.body))) (λ rows key q r p now d g k h j. g.sends) x is }

@@ -15,7 +15,6 @@ use Rattle.sqs_model.specs.declared.acts.Act.TheVariants as acts
 use Rattle.sqs_model.specs.declared.acts.Answer.{Answer}
 use Rattle.sqs_model.specs.declared.acts.Answer.TheVariants as told_by
 use Rattle.sqs_model.specs.declared.agents.ActorSettings.{ActorSettings}
-use Rattle.sqs_model.specs.declared.agents.ConsumerSettings.{ConsumerSettings}
 use Rattle.sqs_model.specs.declared.agents.ProducerSettings.{ProducerSettings}
 use Rattle.sqs_model.specs.declared.agents.Role.{Role}
 use Rattle.sqs_model.specs.declared.acts.Standing.{Standing}
@@ -71,26 +70,33 @@ not_sent seed (Producer p) at a h = absurd h
 not_sent seed (Consumer c) at a h = tt
 not_sent seed (Scaler s) at a h = tt
 
+-- a receive is a call of a script of this moment, if it is a script's
+abbrev pub IsOwnCall : Role → ℕ → ℕ → ℕ → Option ℕ → Type 0
+IsOwnCall (Script cs) at max wait timeout = (c : ScriptCall) × In cs c × (c.at ≡ at) × (c.call ≡ calls.Receive max wait timeout)
+IsOwnCall role at max wait timeout = Unit {0}
+
 -- what an act says of groups: what is sent has the group that the settings tell
 abbrev Tells : ℕ → Role → ℕ → Act → Actor → Type 0
 Tells seed role at (acts.Send body delay group id) b =
-    (IsSender role → GivesAt (opening_draws seed b.number) role at (record { body = body; group = group; id = id }))
-    × (IsSoundRole role → (x : Given) → GivesAt (opening_draws seed b.number) role at x → record { body = body; group = group; id = id } ≡ x) × HasSent seed role at b
+    (IsSender role → GivesAt (opening_draws seed b.number) role at (record { body = body; delay = delay; group = group; id = id }))
+    × (IsSoundRole role → (x : Given) → GivesAt (opening_draws seed b.number) role at x → record { body = body; delay = delay; group = group; id = id } ≡ x) × HasSent seed role at b
+Tells seed role at (acts.Receive max wait timeout) b = IsNoProducer role × IsOwnCall role at max wait timeout
 Tells seed role at acts.Nothing b = Unit {0}
 Tells seed role at act b = IsNoProducer role
 
-untold : (seed : ℕ) (role : Role) (at : ℕ) (x : Act) (b : Actor) → IsNoProducer role → (IsSender role → ⊥) → ((d : Draws) (g : Given) → GivesAt d role at g → ⊥) → Tells seed role at x b
-untold seed role at (acts.Send body delay group id) b n i f = (λ s. absurd (i s), λ s g h. absurd (f (opening_draws seed b.number) g h), not_sent seed role at b n)
-untold seed role at acts.Nothing b n i f = tt
-untold seed role at x b n i f = n
+untold : (seed : ℕ) (role : Role) (at : ℕ) (x : Act) (b : Actor) → IsNoProducer role → ((max wait : ℕ) (timeout : Option ℕ) → IsOwnCall role at max wait timeout) → (IsSender role → ⊥) → ((d : Draws) (g : Given) → GivesAt d role at g → ⊥) → Tells seed role at x b
+untold seed role at (acts.Send body delay group id) b n o i f = (λ s. absurd (i s), λ s g h. absurd (f (opening_draws seed b.number) g h), not_sent seed role at b n)
+untold seed role at (acts.Receive max wait timeout) b n o i f = (n, o max wait timeout)
+untold seed role at acts.Nothing b n o i f = tt
+untold seed role at x b n o i f = n
 
-called : (seed : ℕ) (cs : List ScriptCall) (at : ℕ) (c : Call) (b : Actor) → ((x : Given) → given_in c ≡ Some x → GivesAt (opening_draws seed b.number) (Script cs) at x) → (IsSoundRole (Script cs) → (x : Given) → GivesAt (opening_draws seed b.number) (Script cs) at x → given_in c ≡ Some x) → Tells seed (Script cs) at (act_of c) b
-called seed cs at (calls.Send body delay group id) b v e = (λ s. v (record { body = body; group = group; id = id }) refl, λ s x y. let is : Some (record { body = body; group = group; id = id }) ≡ Some x = e s x y in cc, tt)
-called seed cs at (calls.Receive max wait timeout) b v e = tt
-called seed cs at (calls.Delete receipt) b v e = tt
-called seed cs at (calls.Change receipt timeout) b v e = tt
-called seed cs at (calls.Start task) b v e = tt
-called seed cs at (calls.Cancel task) b v e = tt
+called : (seed : ℕ) (cs : List ScriptCall) (at : ℕ) (c : Call) (b : Actor) → ((max wait : ℕ) (timeout : Option ℕ) → c ≡ calls.Receive max wait timeout → IsOwnCall (Script cs) at max wait timeout) → ((x : Given) → given_in c ≡ Some x → GivesAt (opening_draws seed b.number) (Script cs) at x) → (IsSoundRole (Script cs) → (x : Given) → GivesAt (opening_draws seed b.number) (Script cs) at x → given_in c ≡ Some x) → Tells seed (Script cs) at (act_of c) b
+called seed cs at (calls.Send body delay group id) b o v e = (λ s. v (record { body = body; delay = delay; group = group; id = id }) refl, λ s x y. let is : Some (record { body = body; delay = delay; group = group; id = id }) ≡ Some x = e s x y in cc, tt)
+called seed cs at (calls.Receive max wait timeout) b o v e = (tt, o max wait timeout refl)
+called seed cs at (calls.Delete receipt) b o v e = tt
+called seed cs at (calls.Change receipt timeout) b o v e = tt
+called seed cs at (calls.Start task) b o v e = tt
+called seed cs at (calls.Cancel task) b o v e = tt
 
 -- a script's next call is its only one at its moment
 drop_first : (cs : List ScriptCall) (n : ℕ) (c : ScriptCall) (rest : List ScriptCall) → drop n cs ≡ c ∷ rest → In cs c
@@ -110,7 +116,7 @@ script_gives : (seed : ℕ) (a : Actor) (cs : List ScriptCall) (at : ℕ) (rest 
 script_gives seed a cs at [] e w = tt
 script_gives seed a cs at (c ∷ rest) e w =
     let now : c.at ≡ at = cc in
-    called seed cs at c.call (script_wake a (c ∷ rest)).1 (λ x y. (c, drop_first cs a.wakes c rest e, now, y))
+    called seed cs at c.call (script_wake a (c ∷ rest)).1 (λ max wait timeout y. (c, drop_first cs a.wakes c rest e, now, y)) (λ x y. (c, drop_first cs a.wakes c rest e, now, y))
     (λ s g x. let is : x.0 ≡ c = only_then cs c x.0 s (drop_first cs a.wakes c rest e) x.1 (x.2 ∙ sym now) in ap (λ (y : ScriptCall). given_in y.call) (sym is) ∙ x.3)
 
 script_wakes : (a : Actor) (cs rest : List ScriptCall) → drop a.wakes cs ≡ rest → WakesFor (Script cs) (script_wake a rest).1
@@ -154,12 +160,12 @@ one_message o p m n s e =
 -- a producer's next message
 sends_gives : (seed : ℕ) (a : Actor) (p : ProducerSettings) (at : ℕ) (x : Option (List ℕ) × Draws) → group_of p.groups a.wakes a.draws ≡ x → sending (opening_draws seed a.number) p a.wakes ≡ (at, a.draws) → Tells seed (Producer p) at (producer_sends a p x).0 (producer_sends a p x).1
 sends_gives seed a p at (group, draws) e w = (
-  λ s. (a.wakes, ap (λ (z : ℕ × Draws). z.0) w, ap (λ (z : ℕ × Draws). message_given p a.number a.wakes z.1) w ∙ ap (λ (z : Option (List ℕ) × Draws). record { body = filled (decimal a.wakes) p.body; group = z.0; id = id_given p a.number a.wakes }) e),
+  λ s. (a.wakes, ap (λ (z : ℕ × Draws). z.0) w, ap (λ (z : ℕ × Draws). message_given p a.number a.wakes z.1) w ∙ ap (λ (z : Option (List ℕ) × Draws). record { body = filled (decimal a.wakes) p.body; delay = p.delay; group = z.0; id = id_given p a.number a.wakes }) e),
   λ s g (i, t, y).
       let o : Draws = opening_draws seed a.number in
       let is : i ≡ a.wakes = one_message o p i a.wakes s (t ∙ sym (ap (λ (z : ℕ × Draws). z.0) w)) in
       let own : message_given p a.number a.wakes a.draws ≡ message_given p a.number i (sending o p i).1 = ap (λ (z : ℕ × Draws). message_given p a.number a.wakes z.1) (sym w) ∙ ap (λ k. message_given p a.number k (sending o p k).1) (sym is) in
-      ap (λ (z : Option (List ℕ) × Draws). record { body = filled (decimal a.wakes) p.body; group = z.0; id = id_given p a.number a.wakes }) (sym e) ∙ own ∙ y,
+      ap (λ (z : Option (List ℕ) × Draws). record { body = filled (decimal a.wakes) p.body; delay = p.delay; group = z.0; id = id_given p a.number a.wakes }) (sym e) ∙ own ∙ y,
   record { n = a.wakes; draws = a.draws; sent = omega arith; now = w; drawn = ap (λ (z : Option (List ℕ) × Draws). z.1) (sym e) },
 )
 
@@ -184,8 +190,8 @@ as_gives seed (Producer p) a now (told_by.Wake st) f h =
     (sends_gives seed a p now (group_of p.groups a.wakes a.draws) refl (f now (h st refl)))
 as_gives seed (Producer p) a now told_by.Other f h = either (λ (x : Act × Actor). Tells seed (Producer p) now x.0 x.1) (nat_lt a.wakes p.count) (acts.Nothing, wakes_after a now (drawn_time p.gap a.draws)) (acts.Nothing, a) tt tt
 as_gives seed (Producer p) a now w f h = tt
-as_gives seed (Consumer c) a now w f h = untold seed (Consumer c) now (next_as (Consumer c) a now w).0 (next_as (Consumer c) a now w).1 tt (λ h. h) (λ d g e. e)
-as_gives seed (Scaler s) a now w f h = untold seed (Scaler s) now (next_as (Scaler s) a now w).0 (next_as (Scaler s) a now w).1 tt (λ h. h) (λ d g e. e)
+as_gives seed (Consumer c) a now w f h = untold seed (Consumer c) now (next_as (Consumer c) a now w).0 (next_as (Consumer c) a now w).1 tt (λ _ _ _. tt) (λ h. h) (λ d g e. e)
+as_gives seed (Scaler s) a now w f h = untold seed (Scaler s) now (next_as (Scaler s) a now w).0 (next_as (Scaler s) a now w).1 tt (λ _ _ _. tt) (λ h. h) (λ d g e. e)
 
 as_waits : (seed : ℕ) (role : Role) (a : Actor) (now : ℕ) (w : Answer) → Waits seed role a → (w ≡ told_by.Other → HasSent seed role now a) → Waits seed role (next_as role a now w).1
 as_waits seed (Script cs) a now (told_by.Wake st) f h = script_wakes a cs (drop a.wakes cs) refl
@@ -243,7 +249,8 @@ Gives u at agent given =
     × (All (λ x. IsSoundRole x.role) u.actors → (x : Given) → GivesAs u agent at x → given ≡ x)
 
 abbrev pub MayGive : Scenario → ℕ → Actor → Act → Type 0
-MayGive u at a (acts.Send body delay group id) = Gives u at a.number (record { body = body; group = group; id = id }) × HasSent u.seed a.settings.role at a
+MayGive u at a (acts.Send body delay group id) = Gives u at a.number (record { body = body; delay = delay; group = group; id = id }) × HasSent u.seed a.settings.role at a
+MayGive u at a (acts.Receive max wait timeout) = IsNoProducer a.settings.role × IsOwnCall a.settings.role at max wait timeout
 MayGive u at a acts.Nothing = Unit {0}
 MayGive u at a act = IsNoProducer a.settings.role
 

@@ -1,6 +1,6 @@
 -- The rows of a receive are a chain of single moves: all messages are received, and with a timeout of 0 all then come back.
 use Rattle.std.specs.List.{list_any}
-use Rattle.std.specs.Prelude.{All, Bool, List, None, Option, Some, [], cond, false, filter, get_or, if◌then◌else◌, length, map, min, not, true, ℕ, ◌&&◌, ◌%◌, ◌++◌, ◌<◌, ◌==◌, ◌∷◌, ◌≡◌, ◌≤◌}
+use Rattle.std.specs.Prelude.{All, Bool, List, None, Option, Some, [], cond, false, filter, get_or, if◌then◌else◌, length, map, min, not, true, ℕ, ◌&&◌, ◌%◌, ◌++◌, ◌<◌, ◌==◌, ◌∷◌, ◌≡◌, ◌≤◌, ◌+◌}
 use Rattle.std.proofs.Common.{ap, arith, refl, subst, sym, ◌∙◌}
 use Rattle.std.proofs.lemmas.Bool.{and_parts, eqb-false, eqb-true}
 use Rattle.std.proofs.lemmas.List.{length-take}
@@ -25,11 +25,12 @@ use Rattle.sqs_model.proofs.Giving.{gives}
 use Rattle.sqs_model.proofs.Grouped.{all_groups}
 use Rattle.sqs_model.proofs.Numbered.{Apart}
 use Rattle.sqs_model.proofs.QueueAccounts.{same_timeout}
-use Rattle.sqs_model.proofs.SiteAccounts.{IsFound}
-use Rattle.sqs_laws.proofs.Calls.{AreNext, AreThere, AreToldOf, Told, all_told, back_chain, back_got, other_changed, own_changed, received_chain, told_got, told_kept}
+use Rattle.sqs_laws.proofs.Calls.{AreNext, AreThere, AreToldOf, IsDueNow, Told, all_fit, all_told, back_chain, back_got, other_changed, own_changed, received_chain, received_stand, told_got, told_kept}
 use Rattle.sqs_laws.proofs.Next.{all_next}
 use Rattle.sqs_laws.proofs.Turns.{available_turns}
-use Rattle.sqs_laws.proofs.Moves.{Chain, IsStocked, Keeps, chain_append, chain_keeps}
+use Rattle.sqs_laws.specs.Laws.{is_actor_of}
+use Rattle.sqs_laws.specs.Sends.{milliseconds_or}
+use Rattle.sqs_laws.proofs.Moves.{FitsSender, IsAskedFor, Chain, IsStocked, Keeps, actors_of, chain_append, chain_keeps}
 
 -- what a receive tells of messages of a queue: each came there before
 pub record IsKnown (site arrivals : ℕ) (g : Got) : Type 0 where
@@ -74,26 +75,41 @@ pub visible_available : (k : Kind) (set : ℕ) (ms : List Message) → All (λ x
 visible_available (Standard hosts sampled) set ms = visible_filter (λ m. has_host set (m.number % hosts)) ms
 visible_available (Fifo content scope) set ms = let opened : List Message = open_from ms [] ms in all_groups (λ x. is_visible x ≡ true) opened (firsts [] opened) (visible_open ms [] ms)
 
--- what stands in a queue still does after a change of one message
-there_changed_by : (b : Bool) (q : Queue) (n k : ℕ) (f : Message → Message) → ((m : Message) → (f m).number ≡ m.number) → (n == k) ≡ b → (o : Option Message) → numbered n q.records ≡ o → IsFound o → IsFound (numbered n (with_change q k f).records)
-there_changed_by b q n k f same e None s h = absurd h
-there_changed_by true q n k f same e (Some m) s h =
-    let is : k ≡ n = sym (eqb-true n k e) in
-    subst (λ j. IsFound (numbered n (with_change q j f).records)) (sym is) (subst IsFound (sym (own_changed n f same q.records m s)) tt)
-there_changed_by false q n k f same e (Some m) s h = subst IsFound (sym (other_changed n k f same (eqb-false n k e) q.records ∙ s)) tt
+-- what was received with a timeout of 0 is due at once, whatever else is received then
+module _ (key : Key) where
+  due_changed : (b : Bool) (q : Queue) (n k : ℕ) → (n == k) ≡ b → (o : Option Message) → numbered n q.records ≡ o → IsDueNow key o → IsDueNow key (numbered n (with_change q k (received key.at 0)).records)
+  due_changed b q n k e None s h = absurd h
+  due_changed true q n k e (Some m) s h =
+      let is : k ≡ n = sym (eqb-true n k e) in
+      let now : Some (key.at + 0) ≡ Some key.at = ap (λ t. Some t) (let same : key.at + 0 ≡ key.at = omega arith in same) in
+      subst (λ j. IsDueNow key (numbered n (with_change q j (received key.at 0)).records)) (sym is) (subst (IsDueNow key) (sym (own_changed n (received key.at 0) (λ x. refl) q.records m s)) now)
+  due_changed false q n k e (Some m) s h = subst (IsDueNow key) (sym (other_changed n k (received key.at 0) (λ x. refl) (eqb-false n k e) q.records ∙ s)) h
 
-there_changed : (q : Queue) (n k : ℕ) (f : Message → Message) → ((m : Message) → (f m).number ≡ m.number) → IsFound (numbered n q.records) → IsFound (numbered n (with_change q k f).records)
-there_changed q n k f same h = there_changed_by (n == k) q n k f same refl (numbered n q.records) refl h
+  due_received : (n : ℕ) (ms : List Message) (q : Queue) → IsDueNow key (numbered n q.records) → IsDueNow key (numbered n (all_received key.at 0 ms q).records)
+  due_received n [] q h = h
+  due_received n (m ∷ ms) q h = due_received n ms (with_change q m.number (received key.at 0)) (due_changed (n == m.number) q n m.number refl (numbered n q.records) refl h)
 
-there_received : (now timeout n : ℕ) (ms : List Message) (q : Queue) → IsFound (numbered n q.records) → IsFound (numbered n (all_received now timeout ms q).records)
-there_received now timeout n [] q h = h
-there_received now timeout n (m ∷ ms) q h = there_received now timeout n ms (with_change q m.number (received now timeout)) (there_changed q n m.number (received now timeout) (λ x. refl) h)
+  all_due : (ms : List Message) (q : Queue) → Apart ms → Stand q ms → AreThere key (all_received key.at 0 ms q) ms
+  all_due [] q a s = All-nil (λ m. IsDueNow key (numbered m.number q.records))
+  all_due (m ∷ ms) q a s =
+      let x : Queue = with_change q m.number (received key.at 0) in
+      let there : numbered m.number q.records ≡ Some m = All-head (λ y. numbered y.number q.records ≡ Some y) m ms s in
+      let now : Some (key.at + 0) ≡ Some key.at = ap (λ t. Some t) (let same : key.at + 0 ≡ key.at = omega arith in same) in
+      All-cons (λ y. IsDueNow key (numbered y.number (all_received key.at 0 ms x).records)) m ms
+      (due_received m.number ms x (subst (IsDueNow key) (sym (own_changed m.number (received key.at 0) (λ y. refl) q.records m there)) now))
+      (all_due ms x a.1 (received_stand key 0 q m ms a.0 (All-tail (λ y. numbered y.number q.records ≡ Some y) m ms s)))
 
-module _ (u : Scenario) (past : List Row) (key : Key) (c : Core) (agent : ℕ) (timeout : Option ℕ) where
+-- the timeout of a receive
+timeout_alike : (q : Queue) (own : Option ℕ) → timeout_of q own ≡ milliseconds_or q.settings.visibility own
+timeout_alike q None = refl
+timeout_alike q (Some seconds) = refl
+
+module _ (u : Scenario) (past : List Row) (key : Key) (c : Core) (agent : ℕ) (timeout : Option ℕ) (asked : IsAskedFor u past agent key.at timeout) (home : is_actor_of u c.queue.site ≡ false) where
   -- the rows of a receive
   pub record IsGiven (x : Queue × List Got) : Type 0 where
     pub chain : Chain u past key c.queue (given key c agent timeout x).rows (given key c agent timeout x).core.queue
-    pub actors : (given key c agent timeout x).core.actors ≡ c.actors
+    pub actors : actors_of (given key c agent timeout x).core ≡ actors_of c
+    pub sent : All (FitsSender u) (given key c agent timeout x).sent
     pub known : AreKnown c.queue.site c.queue.arrivals x.1
 
   module _ (ms : List Message) (apart : Apart ms) (stand : Stand c.queue ms) (visible : All (λ m. is_visible m ≡ true) ms) (few : length ms ≤ room c.queue) (stocked : IsStocked c.queue)
@@ -104,15 +120,16 @@ module _ (u : Scenario) (past : List Row) (key : Key) (c : Core) (agent : ℕ) (
         (λ i e l. let m : Message = get_or ms i e in find_all (has_number m.number) (λ x. x.number < c.queue.arrivals) c.queue.records m stocked.given_out (stand i e l))
 
     -- with a timeout none comes back
-    given_kept : (b : Bool) → (gots : List Got) → AreToldOf c.queue.site ms gots → (t : ℕ) → (timeout_of (all_received key.at t ms c.queue) timeout == 0) ≡ false → IsGiven (all_received key.at t ms c.queue, gots)
-    given_kept b gots told t e =
+    given_kept : (gots : List Got) → AreToldOf c.queue.site ms gots → (t : ℕ) → t ≡ timeout_of c.queue timeout → (timeout_of (all_received key.at t ms c.queue) timeout == 0) ≡ false → IsGiven (all_received key.at t ms c.queue, gots)
+    given_kept gots told t own e =
         let q : Queue = all_received key.at t ms c.queue in
         let f : Effect = record { core = with_queue c q; rows = map (got_row key c agent) gots; sent = [] } in
-        let chain : Chain u past key c.queue f.rows q = received_chain key u past c agent t ms gots c.queue refl told apart stand visible few (next t gots told) in
+        let chain : Chain u past key c.queue f.rows q = received_chain key u past c agent t ms gots c.queue (timeout, asked, own ∙ timeout_alike c.queue timeout) refl told apart stand visible few (next t gots told) in
         let same : f ≡ given key c agent timeout (q, gots) = sym (ap (λ z. if z then and_then f (all_came_back key gots) else f) e) in
         record {
           chain = subst (λ g. Chain u past key c.queue g.rows g.core.queue) same chain;
-          actors = subst (λ (g : Effect). g.core.actors ≡ c.actors) same refl;
+          actors = subst (λ (g : Effect). actors_of g.core ≡ actors_of c) same refl;
+          sent = subst (λ (g : Effect). All (FitsSender u) g.sent) same (All-nil (FitsSender u));
           known = known_of gots told;
         }
 
@@ -125,10 +142,10 @@ module _ (u : Scenario) (past : List Row) (key : Key) (c : Core) (agent : ℕ) (
         let d : Core = with_queue c q in
         let f : Effect = record { core = d; rows = map (got_row key c agent) gots; sent = [] } in
         let told : AreToldOf c.queue.site ms gots = told_got c.queue taken ms in
-        let first : Chain u past key c.queue f.rows taken = received_chain key u past c agent 0 ms gots c.queue refl told apart stand visible few (next 0 gots told) in
+        let first : Chain u past key c.queue f.rows taken = received_chain key u past c agent 0 ms gots c.queue (timeout, asked, sym (eqb-true (timeout_of c.queue timeout) 0 e) ∙ timeout_alike c.queue timeout) refl told apart stand visible few (next 0 gots told) in
         let behind : List Row = past ++ f.rows in
         let kept : Keeps c.queue taken = chain_keeps u past key f.rows c.queue taken first stocked in
-        let there : AreThere key taken ms = λ i l h. let m : Message = get_or ms i l in there_received key.at 0 m.number ms c.queue (subst IsFound (sym (stand i l h)) tt) in
+        let there : AreThere key taken ms = all_due key ms c.queue apart stand in
         let back : (e : Core) → e.queue.site ≡ taken.site → e.queue.settings ≡ taken.settings → Chain u behind key taken (all_came_back key gots e).rows q = λ e s t. back_chain key u behind ms gots taken e s t (back_got key c.queue taken ms) apart there in
         let from_old : Keeps taken q = chain_keeps u behind key (all_came_back key gots c).rows taken q (back c kept.site kept.settings) kept.stocked in
         let second : Chain u behind key taken (all_came_back key gots d).rows q = back d (sym from_old.site) (sym from_old.settings) in
@@ -139,7 +156,8 @@ module _ (u : Scenario) (past : List Row) (key : Key) (c : Core) (agent : ℕ) (
         let chain : Chain u past key c.queue whole.rows whole.core.queue = subst (Chain u past key c.queue whole.rows) (sym after.queue) (chain_append u past key f.rows (all_came_back key gots d).rows c.queue taken q first second) in
         record {
           chain = subst (λ g. Chain u past key c.queue g.rows g.core.queue) same chain;
-          actors = subst (λ (g : Effect). g.core.actors ≡ c.actors) same after.actors;
+          actors = subst (λ (g : Effect). actors_of g.core ≡ actors_of c) same after.actors;
+          sent = subst (λ (g : Effect). All (FitsSender u) g.sent) same (all_fit key u gots d (ap (is_actor_of u) (sym (kept.site ∙ from_old.site)) ∙ home));
           known = known_of gots told;
         }
 
@@ -152,10 +170,10 @@ module _ (u : Scenario) (past : List Row) (key : Key) (c : Core) (agent : ℕ) (
         let gots : List Got = map (λ m. got_of c.queue m None) ms in
         let told : AreToldOf c.queue.site ms gots = told_kept c.queue ms in
         let more : 0 < t = grind (arith, eqb-false t 0 e) in
-        let chain : Chain u past key c.queue (map (got_row key c agent) gots) (all_received key.at t ms c.queue) = received_chain key u past c agent t ms gots c.queue refl told apart stand visible few (next t gots told) in
+        let chain : Chain u past key c.queue (map (got_row key c agent) gots) (all_received key.at t ms c.queue) = received_chain key u past c agent t ms gots c.queue (timeout, asked, timeout_alike c.queue timeout) refl told apart stand visible few (next t gots told) in
         let kept : Keeps c.queue (all_received key.at t ms c.queue) = chain_keeps u past key _ c.queue _ chain stocked in
         subst IsGiven (sym ((gives key.at c.queue).later t ms more))
-        (given_kept false gots told t (ap (λ n. n == 0) (same_timeout c.queue (all_received key.at t ms c.queue) timeout (sym kept.settings)) ∙ e))
+        (given_kept gots told t refl (ap (λ n. n == 0) (same_timeout c.queue (all_received key.at t ms c.queue) timeout (sym kept.settings)) ∙ e))
 
   pub most_given : (max set : ℕ) → IsStocked c.queue → IsGiven (give_most c.queue key.at max timeout set)
   most_given max set s =

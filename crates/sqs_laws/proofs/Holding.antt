@@ -25,6 +25,13 @@ use Rattle.sqs_model.proofs.Branches.{either}
 use Rattle.sqs_redrive.specs.declared.settings.Latency.{Latency}
 use Rattle.sqs_laws.proofs.Giving.{AreKnown, IsKnown}
 
+-- the timeouts that an actor of a role asks for, but a script
+abbrev pub AsksOwn : Role → Option ℕ → Type 0
+AsksOwn (Script script) timeout = Unit {0}
+AsksOwn (Producer p) timeout = ⊥
+AsksOwn (Consumer c) timeout = timeout ≡ c.timeout
+AsksOwn (Scaler s) timeout = ⊥
+
 module _ (site arrivals : ℕ) where
   -- messages of which an actor was told
   pub record IsInformed (a : Actor) : Type 0 where
@@ -32,70 +39,71 @@ module _ (site arrivals : ℕ) where
     pub done : AreKnown site arrivals a.done
     pub failed : AreKnown site arrivals a.failed
 
-  -- an act that serves no other message
-  abbrev pub ServesKnown : Act → Type 0
-  ServesKnown (acts.Serve id receipt failed forwards) = (id.site ≡ site) × (id.number < arrivals)
-  ServesKnown act = Unit {0}
+  -- an act that serves no other message, and receives with such a timeout
+  abbrev pub ServesKnown : (Option ℕ → Type 0) → Act → Type 0
+  ServesKnown Own (acts.Serve id receipt failed forwards) = (id.site ≡ site) × (id.number < arrivals)
+  ServesKnown Own (acts.Receive max wait timeout) = Own timeout
+  ServesKnown Own act = Unit {0}
 
   abbrev pub HearsOfKnown : Answer → Type 0
   HearsOfKnown (told_by.Got gots) = AreKnown site arrivals gots
   HearsOfKnown answer = Unit {0}
 
-  pub record Acts (x : Act × Actor) : Type 0 where
+  pub record Acts (Own : Option ℕ → Type 0) (x : Act × Actor) : Type 0 where
     pub informed : IsInformed x.1
-    pub serves : ServesKnown x.0
+    pub serves : ServesKnown Own x.0
 
   known_append : (gs hs : List Got) → AreKnown site arrivals gs → AreKnown site arrivals hs → AreKnown site arrivals (gs ++ hs)
   known_append [] hs k l = l
   known_append (g ∷ gs) hs k l = (k.0, known_append gs hs k.1 l)
 
-  module _ (now : ℕ) where
-    idles : (a : Actor) → IsInformed a → Acts (acts.Nothing, a)
+  module _ (Own : Option ℕ → Type 0) (now : ℕ) where
+    idles : (a : Actor) → IsInformed a → Acts Own (acts.Nothing, a)
     idles a h = record { informed = h; serves = tt }
 
     with_lists : (a : Actor) → AreKnown site arrivals a.held → AreKnown site arrivals a.done → AreKnown site arrivals a.failed → IsInformed a
     with_lists a h d f = record { held = h; done = d; failed = f }
 
-    call_serves : (c : Call) → ServesKnown (act_of c)
-    call_serves (calls.Send body delay group id) = tt
-    call_serves (calls.Receive max wait timeout) = tt
-    call_serves (calls.Delete receipt) = tt
-    call_serves (calls.Change receipt timeout) = tt
-    call_serves (calls.Start task) = tt
-    call_serves (calls.Cancel task) = tt
+    call_serves : ((timeout : Option ℕ) → Own timeout) → (c : Call) → ServesKnown Own (act_of c)
+    call_serves any (calls.Send body delay group id) = tt
+    call_serves any (calls.Receive max wait timeout) = any timeout
+    call_serves any (calls.Delete receipt) = tt
+    call_serves any (calls.Change receipt timeout) = tt
+    call_serves any (calls.Start task) = tt
+    call_serves any (calls.Cancel task) = tt
 
-    script_acts : (a : Actor) (cs : List ScriptCall) → IsInformed a → Acts (script_wake a cs)
-    script_acts a [] h = record { informed = with_lists _ h.held h.done h.failed; serves = tt }
-    script_acts a (c ∷ cs) h = record { informed = with_lists _ h.held h.done h.failed; serves = call_serves c.call }
+    script_acts : ((timeout : Option ℕ) → Own timeout) → (a : Actor) (cs : List ScriptCall) → IsInformed a → Acts Own (script_wake a cs)
+    script_acts any a [] h = record { informed = with_lists _ h.held h.done h.failed; serves = tt }
+    script_acts any a (c ∷ cs) h = record { informed = with_lists _ h.held h.done h.failed; serves = call_serves any c.call }
 
-    producer_acts : (a : Actor) (p : ProducerSettings) → IsInformed a → Acts (producer_wake a p now)
+    producer_acts : (a : Actor) (p : ProducerSettings) → IsInformed a → Acts Own (producer_wake a p now)
     producer_acts a p h =
-        either Acts (has_come p.stop now) _ _ (record { informed = with_lists _ h.held h.done h.failed; serves = tt }) (record { informed = with_lists _ h.held h.done h.failed; serves = tt })
+        either (Acts Own) (has_come p.stop now) _ _ (record { informed = with_lists _ h.held h.done h.failed; serves = tt }) (record { informed = with_lists _ h.held h.done h.failed; serves = tt })
 
-    sent_acts : (a : Actor) (p : ProducerSettings) → IsInformed a → Acts (producer_sent a p now)
-    sent_acts a p h = either Acts (nat_lt a.wakes p.count) _ _ (record { informed = with_lists _ h.held h.done h.failed; serves = tt }) (idles a h)
+    sent_acts : (a : Actor) (p : ProducerSettings) → IsInformed a → Acts Own (producer_sent a p now)
+    sent_acts a p h = either (Acts Own) (nat_lt a.wakes p.count) _ _ (record { informed = with_lists _ h.held h.done h.failed; serves = tt }) (idles a h)
 
     forwarded_informed : (l : Latency) (tos : List ℕ) (a : Actor) → IsInformed a → IsInformed (has_forwarded l tos a)
     forwarded_informed l [] a h = h
     forwarded_informed l (to ∷ tos) a h = forwarded_informed l tos (sent_one l a) (with_lists _ h.held h.done h.failed)
 
-    serves_acts : (a : Actor) (g : Got) (f : Option Forwarding) → IsInformed a → IsKnown site arrivals g → Acts (serves a now g f)
+    serves_acts : (a : Actor) (g : Got) (f : Option Forwarding) → IsInformed a → IsKnown site arrivals g → Acts Own (serves a now g f)
     serves_acts a g None h k = record { informed = h; serves = (k.here, k.old) }
     serves_acts a g (Some f) h k = record { informed = forwarded_informed f.latency f.to a h; serves = (k.here, k.old) }
 
-    settles_acts : (a : Actor) (c : ConsumerSettings) (g : Got) (gs : List Got) → IsInformed a → IsKnown site arrivals g → AreKnown site arrivals gs → Acts (settles a c now g gs)
+    settles_acts : (a : Actor) (c : ConsumerSettings) (g : Got) (gs : List Got) → IsInformed a → IsKnown site arrivals g → AreKnown site arrivals gs → Acts Own (settles a c now g gs)
     settles_acts a c g gs h k l = serves_acts (record a { done = gs; last_act = Served g.receipt }) g c.forward (with_lists _ h.held l h.failed) k
 
-    all_acts : (a : Actor) (c : ConsumerSettings) (gs : List Got) → IsInformed a → AreKnown site arrivals gs → Acts (served_all a c now gs)
+    all_acts : (a : Actor) (c : ConsumerSettings) (gs : List Got) → IsInformed a → AreKnown site arrivals gs → Acts Own (served_all a c now gs)
     all_acts a c [] h k = idles a h
     all_acts a c (g ∷ gs) h k = settles_acts a c g gs h k.0 k.1
 
-    whole_acts : (serving : Serving) (a : Actor) (c : ConsumerSettings) (g : Got) (gs : List Got) → IsInformed a → IsKnown site arrivals g → AreKnown site arrivals gs → Acts (ends_whole serving a c now g gs)
+    whole_acts : (serving : Serving) (a : Actor) (c : ConsumerSettings) (g : Got) (gs : List Got) → IsInformed a → IsKnown site arrivals g → AreKnown site arrivals gs → Acts Own (ends_whole serving a c now g gs)
     whole_acts Each a c g [] h k l = all_acts a c (a.done ++ g ∷ []) h (known_append a.done (g ∷ []) h.done (k, tt))
     whole_acts Each a c g (x ∷ xs) h k l = record { informed = with_lists _ h.held (known_append a.done (g ∷ []) h.done (k, tt)) h.failed; serves = (k.here, k.old) }
     whole_acts (Once each) a c g gs h k l = settles_acts (record a { held = [] }) c g gs (with_lists _ tt h.done h.failed) k l
 
-    well_acts : (whole : Bool) (a : Actor) (c : ConsumerSettings) (g : Got) (gs : List Got) → IsInformed a → IsKnown site arrivals g → AreKnown site arrivals gs → Acts (ends_well whole a c now g gs)
+    well_acts : (whole : Bool) (a : Actor) (c : ConsumerSettings) (g : Got) (gs : List Got) → IsInformed a → IsKnown site arrivals g → AreKnown site arrivals gs → Acts Own (ends_well whole a c now g gs)
     well_acts false a c g gs h k l = serves_acts (record a { last_act = Served g.receipt }) g c.forward (with_lists _ h.held h.done h.failed) k
     well_acts true a c g gs h k l = whole_acts c.serving a c g gs h k l
 
@@ -105,55 +113,55 @@ module _ (site arrivals : ℕ) where
     failure_informed (t ∷ ts) false c a g e h k = rw e (with_lists _ h.held tt (known_append a.failed (a.done ++ g ∷ []) h.failed (known_append a.done (g ∷ []) h.done (k, tt))))
     failure_informed (t ∷ ts) true c a g e h k = rw e (with_lists _ tt tt (known_append a.failed (a.done ++ g ∷ a.held) h.failed (known_append a.done (g ∷ a.held) h.done (k, h.held))))
 
-    ends_acts : (a : Actor) (c : ConsumerSettings) (g : Got) (failed : Bool) → IsInformed a → IsKnown site arrivals g → Acts (ends_service a c now g failed)
+    ends_acts : (a : Actor) (c : ConsumerSettings) (g : Got) (failed : Bool) → IsInformed a → IsKnown site arrivals g → Acts Own (ends_service a c now g failed)
     ends_acts a c g true h k = record { informed = failure_informed c.backoff c.whole c a g refl h k; serves = (k.here, k.old) }
     ends_acts a c g false h k = well_acts c.whole a c g a.held h k h.held
 
-    outcome_acts : (a : Actor) (c : ConsumerSettings) (g : Got) (outcome : Bool × Draws) → IsInformed a → IsKnown site arrivals g → Acts (ends_by a c now g outcome)
+    outcome_acts : (a : Actor) (c : ConsumerSettings) (g : Got) (outcome : Bool × Draws) → IsInformed a → IsKnown site arrivals g → Acts Own (ends_by a c now g outcome)
     outcome_acts a c g (failed, draws) h k = ends_acts (record a { draws = draws }) c g failed (with_lists _ h.held h.done h.failed) k
 
-    rests_acts : (a : Actor) (c : ConsumerSettings) (failed done : List Got) → IsInformed a → AreKnown site arrivals failed → AreKnown site arrivals done → Acts (rests a c now failed done)
-    rests_acts a c (g ∷ gs) done h f d = record { informed = with_lists _ h.held h.done f.1; serves = tt }
-    rests_acts a c [] (g ∷ gs) h f d = settles_acts a c g gs h d.0 d.1
-    rests_acts a c [] [] h f d = either Acts (has_come c.stop now) _ _ (idles a h) (record { informed = with_lists _ h.held h.done h.failed; serves = tt })
+    rests_acts : (a : Actor) (c : ConsumerSettings) (failed done : List Got) → Own c.timeout → IsInformed a → AreKnown site arrivals failed → AreKnown site arrivals done → Acts Own (rests a c now failed done)
+    rests_acts a c (g ∷ gs) done o h f d = record { informed = with_lists _ h.held h.done f.1; serves = tt }
+    rests_acts a c [] (g ∷ gs) o h f d = settles_acts a c g gs h d.0 d.1
+    rests_acts a c [] [] o h f d = either (Acts Own) (has_come c.stop now) _ _ (idles a h) (record { informed = with_lists _ h.held h.done h.failed; serves = o })
 
-    serves_on_acts : (a : Actor) (c : ConsumerSettings) (g : Got) (gs : List Got) → IsInformed a → AreKnown site arrivals (g ∷ gs) → Acts (serves_on a c now g gs)
+    serves_on_acts : (a : Actor) (c : ConsumerSettings) (g : Got) (gs : List Got) → IsInformed a → AreKnown site arrivals (g ∷ gs) → Acts Own (serves_on a c now g gs)
     serves_on_acts a c g gs h k =
-        either Acts (goes_on c.heartbeat a.ends now) _ _ (record { informed = with_lists _ h.held h.done h.failed; serves = tt })
+        either (Acts Own) (goes_on c.heartbeat a.ends now) _ _ (record { informed = with_lists _ h.held h.done h.failed; serves = tt })
         (outcome_acts (record a { held = gs }) c g (outcome c.fail_service (record a { held = g ∷ gs }) c now) (with_lists _ k.1 h.done h.failed) k.0)
 
-    begins_acts : (failed : Option ℕ) (a : Actor) (c : ConsumerSettings) (drawn : ℕ × Draws) → IsInformed a → Acts (acts.Nothing, begins_by failed a c now drawn)
+    begins_acts : (failed : Option ℕ) (a : Actor) (c : ConsumerSettings) (drawn : ℕ × Draws) → IsInformed a → Acts Own (acts.Nothing, begins_by failed a c now drawn)
     begins_acts None a c (time, draws) h = record { informed = with_lists _ h.held h.done h.failed; serves = tt }
     begins_acts (Some failed) a c (time, draws) h = record { informed = with_lists _ h.held h.done h.failed; serves = tt }
 
-    gathers_acts : (a : Actor) (c : ConsumerSettings) (after : ℕ) → IsInformed a → Acts (acts.Nothing, gathers_on a c now after)
+    gathers_acts : (a : Actor) (c : ConsumerSettings) (after : ℕ) → IsInformed a → Acts Own (acts.Nothing, gathers_on a c now after)
     gathers_acts a c after h =
-        either (λ (b : Actor). Acts (acts.Nothing, b)) (is_gathered a c now after) _ _
+        either (λ (b : Actor). Acts Own (acts.Nothing, b)) (is_gathered a c now after) _ _
         (begins_acts c.fail_service (record a { last_act = Ended }) c (service_of c.serving (length a.held) (drawn_time c.service a.draws)) (with_lists _ h.held h.done h.failed))
         (record { informed = with_lists _ h.held h.done h.failed; serves = tt })
 
-    wake_acts : (a : Actor) (c : ConsumerSettings) (gs : List Got) → IsInformed a → AreKnown site arrivals gs → Acts (consumer_wake a c now gs)
-    wake_acts a c [] h k = rests_acts a c a.failed a.done h h.failed h.done
-    wake_acts a c (g ∷ gs) h k = either Acts (is_gathering a.last_act) _ _ (record { informed = h; serves = tt }) (serves_on_acts a c g gs h k)
+    wake_acts : (a : Actor) (c : ConsumerSettings) (gs : List Got) → Own c.timeout → IsInformed a → AreKnown site arrivals gs → Acts Own (consumer_wake a c now gs)
+    wake_acts a c [] o h k = rests_acts a c a.failed a.done o h h.failed h.done
+    wake_acts a c (g ∷ gs) o h k = either (Acts Own) (is_gathering a.last_act) _ _ (record { informed = h; serves = o }) (serves_on_acts a c g gs h k)
 
-    next_one_acts : (s : Serving) (a : Actor) (c : ConsumerSettings) (gs : List Got) → IsInformed a → AreKnown site arrivals gs → Acts (acts.Nothing, begins_next s (record a { held = gs }) c now)
+    next_one_acts : (s : Serving) (a : Actor) (c : ConsumerSettings) (gs : List Got) → IsInformed a → AreKnown site arrivals gs → Acts Own (acts.Nothing, begins_next s (record a { held = gs }) c now)
     next_one_acts Each a c gs h k = begins_acts c.fail_service (record a { held = gs }) c (drawn_time c.service a.draws) (with_lists _ k h.done h.failed)
     next_one_acts (Once each) a c gs h k = record { informed = with_lists _ k h.done h.failed; serves = tt }
 
-    serving_acts : (a : Actor) (c : ConsumerSettings) (gs : List Got) → IsInformed a → AreKnown site arrivals gs → Acts (acts.Nothing, serving a c now gs)
+    serving_acts : (a : Actor) (c : ConsumerSettings) (gs : List Got) → IsInformed a → AreKnown site arrivals gs → Acts Own (acts.Nothing, serving a c now gs)
     serving_acts a c [] h k = record { informed = with_lists _ tt h.done h.failed; serves = tt }
     serving_acts a c (g ∷ gs) h k = next_one_acts c.serving a c (g ∷ gs) h k
 
-    got_acts : (held : List Got) (a : Actor) (c : ConsumerSettings) (gs : List Got) → AreKnown site arrivals held → IsInformed a → AreKnown site arrivals gs → Acts (got_more held a c now gs)
+    got_acts : (held : List Got) (a : Actor) (c : ConsumerSettings) (gs : List Got) → AreKnown site arrivals held → IsInformed a → AreKnown site arrivals gs → Acts Own (got_more held a c now gs)
     got_acts [] a c [] l h k = record { informed = with_lists _ h.held h.done h.failed; serves = tt }
     got_acts [] a c (g ∷ gs) l h k = gathers_acts (record a { held = g ∷ gs; done = []; failed = []; ends = now + c.gather }) c 0 (with_lists _ k tt tt)
     got_acts (x ∷ xs) a c gs l h k = gathers_acts (record a { held = x ∷ xs ++ gs }) c (rest_after c.idle gs) (with_lists _ (known_append (x ∷ xs) gs l k) h.done h.failed)
 
-    failed_acts : (a : Actor) (c : ConsumerSettings) (gs : List Got) → IsInformed a → AreKnown site arrivals gs → Acts (has_failed a c now gs)
+    failed_acts : (a : Actor) (c : ConsumerSettings) (gs : List Got) → IsInformed a → AreKnown site arrivals gs → Acts Own (has_failed a c now gs)
     failed_acts a c [] h k = serving_acts a c a.held h h.held
     failed_acts a c (g ∷ gs) h k = record { informed = with_lists _ h.held h.done k.1; serves = tt }
 
-    told_acts : (a : Actor) (c : ConsumerSettings) (last : LastAct) → IsInformed a → Acts (consumer_told a c now last)
+    told_acts : (a : Actor) (c : ConsumerSettings) (last : LastAct) → IsInformed a → Acts Own (consumer_told a c now last)
     told_acts a c Asked h = record { informed = with_lists _ h.held h.done h.failed; serves = tt }
     told_acts a c Gathered h = gathers_acts a c c.idle h
     told_acts a c (Served receipt) h = record { informed = with_lists _ h.held h.done h.failed; serves = tt }
@@ -162,40 +170,40 @@ module _ (site arrivals : ℕ) where
     told_acts a c Beat h = record { informed = with_lists _ h.held h.done h.failed; serves = tt }
     told_acts a c last h = idles a h
 
-    copy_rests_acts : (wanted : Bool) (s : Scaling) (a : Actor) (c : ConsumerSettings) (next : Option ℕ) → IsInformed a → Acts (copy_rests wanted s a c now next)
-    copy_rests_acts false s a c next h = record { informed = with_lists _ h.held h.done h.failed; serves = tt }
-    copy_rests_acts true s a c next h = either Acts (is_parked a.last_act) _ _ (record { informed = with_lists _ h.held h.done h.failed; serves = tt }) (wake_acts a c a.held h h.held)
+    copy_rests_acts : (wanted : Bool) (s : Scaling) (a : Actor) (c : ConsumerSettings) (next : Option ℕ) → Own c.timeout → IsInformed a → Acts Own (copy_rests wanted s a c now next)
+    copy_rests_acts false s a c next o h = record { informed = with_lists _ h.held h.done h.failed; serves = tt }
+    copy_rests_acts true s a c next o h = either (Acts Own) (is_parked a.last_act) _ _ (record { informed = with_lists _ h.held h.done h.failed; serves = tt }) (wake_acts a c a.held o h h.held)
 
-    copy_acts : (o : Option Scaling) (a : Actor) (c : ConsumerSettings) (st : Standing) → IsInformed a → Acts (copy_wake o a c now st)
-    copy_acts None a c st h = wake_acts a c a.held h h.held
-    copy_acts (Some s) a c st h = either Acts (has_nothing a) _ _ (copy_rests_acts (is_wanted s st.number a) s a c st.next h) (wake_acts a c a.held h h.held)
+    copy_acts : (scaling : Option Scaling) (a : Actor) (c : ConsumerSettings) (st : Standing) → Own c.timeout → IsInformed a → Acts Own (copy_wake scaling a c now st)
+    copy_acts None a c st o h = wake_acts a c a.held o h h.held
+    copy_acts (Some s) a c st o h = either (Acts Own) (has_nothing a) _ _ (copy_rests_acts (is_wanted s st.number a) s a c st.next o h) (wake_acts a c a.held o h h.held)
 
-    scales_acts : (a : Actor) (s : ScalerSettings) (copies changed to : ℕ) → IsInformed a → Acts (scales a s now copies changed to)
+    scales_acts : (a : Actor) (s : ScalerSettings) (copies changed to : ℕ) → IsInformed a → Acts Own (scales a s now copies changed to)
     scales_acts a s copies changed to h =
-        either Acts (to == copies) _ _ (record { informed = with_lists _ h.held h.done h.failed; serves = tt }) (record { informed = with_lists _ h.held h.done h.failed; serves = tt })
+        either (Acts Own) (to == copies) _ _ (record { informed = with_lists _ h.held h.done h.failed; serves = tt }) (record { informed = with_lists _ h.held h.done h.failed; serves = tt })
 
-    scaler_acts : (o : Option ℕ) (a : Actor) (s : ScalerSettings) (copies changed visible : ℕ) → IsInformed a → Acts (reads_or_scales o a s now copies changed visible)
+    scaler_acts : (o : Option ℕ) (a : Actor) (s : ScalerSettings) (copies changed visible : ℕ) → IsInformed a → Acts Own (reads_or_scales o a s now copies changed visible)
     scaler_acts (Some before) a s copies changed visible h = scales_acts a s copies changed (copies_after s now copies changed (wanted_for s before)) h
     scaler_acts None a s copies changed visible h =
-        either Acts (s.reading == 0) _ _ (scales_acts a s copies changed (copies_after s now copies changed (wanted_for s visible)) h)
+        either (Acts Own) (s.reading == 0) _ _ (scales_acts a s copies changed (copies_after s now copies changed (wanted_for s visible)) h)
         (record { informed = with_lists _ h.held h.done h.failed; serves = tt })
 
-    as_acts : (r : Role) (a : Actor) (w : Answer) → IsInformed a → HearsOfKnown w → Acts (next_as r a now w)
-    as_acts (Script script) a (told_by.Wake st) h k = script_acts a (drop a.wakes script) h
-    as_acts (Script script) a w h k = idles a h
-    as_acts (Producer p) a (told_by.Wake st) h k = producer_acts a p h
-    as_acts (Producer p) a told_by.Other h k = sent_acts a p h
-    as_acts (Producer p) a w h k = idles a h
-    as_acts (Consumer c) a (told_by.Wake st) h k = copy_acts c.scaling (woken a) c st (with_lists _ h.held h.done h.failed)
-    as_acts (Consumer c) a (told_by.Got gots) h k = got_acts a.held a c gots h.held h k
-    as_acts (Consumer c) a told_by.Waiting h k = idles a h
-    as_acts (Consumer c) a told_by.Other h k = told_acts a c a.last_act h
-    as_acts (Scaler s) a (told_by.Wake st) h k = scaler_acts (read_before a.last_act) (woken a) s (copies_by s a.last_act) (changed_at a.last_act) st.number (with_lists _ h.held h.done h.failed)
-    as_acts (Scaler s) a w h k = idles a h
+  as_acts : (now : ℕ) (r : Role) (a : Actor) (w : Answer) → IsInformed a → HearsOfKnown w → Acts (AsksOwn r) (next_as r a now w)
+  as_acts now (Script script) a (told_by.Wake st) h k = script_acts (AsksOwn (Script script)) now (λ _. tt) a (drop a.wakes script) h
+  as_acts now (Script script) a w h k = idles (AsksOwn (Script script)) now a h
+  as_acts now (Producer p) a (told_by.Wake st) h k = producer_acts (AsksOwn (Producer p)) now a p h
+  as_acts now (Producer p) a told_by.Other h k = sent_acts (AsksOwn (Producer p)) now a p h
+  as_acts now (Producer p) a w h k = idles (AsksOwn (Producer p)) now a h
+  as_acts now (Consumer c) a (told_by.Wake st) h k = copy_acts (AsksOwn (Consumer c)) now c.scaling (woken a) c st refl (with_lists (AsksOwn (Consumer c)) now _ h.held h.done h.failed)
+  as_acts now (Consumer c) a (told_by.Got gots) h k = got_acts (AsksOwn (Consumer c)) now a.held a c gots h.held h k
+  as_acts now (Consumer c) a told_by.Waiting h k = idles (AsksOwn (Consumer c)) now a h
+  as_acts now (Consumer c) a told_by.Other h k = told_acts (AsksOwn (Consumer c)) now a c a.last_act h
+  as_acts now (Scaler s) a (told_by.Wake st) h k = scaler_acts (AsksOwn (Scaler s)) now (read_before a.last_act) (woken a) s (copies_by s a.last_act) (changed_at a.last_act) st.number (with_lists (AsksOwn (Scaler s)) now _ h.held h.done h.failed)
+  as_acts now (Scaler s) a w h k = idles (AsksOwn (Scaler s)) now a h
 
-    pub next_acts : (a : Actor) (w : Answer) → IsInformed a → HearsOfKnown w → Acts (next a now w)
-    unfolding next
-    next_acts a w h k = as_acts a.settings.role a w h k
+  pub next_acts : (now : ℕ) (a : Actor) (w : Answer) → IsInformed a → HearsOfKnown w → Acts (AsksOwn a.settings.role) (next a now w)
+  unfolding next
+  next_acts now a w h k = as_acts now a.settings.role a w h k
 
 -- what was known stays known, as messages come
 pub known_later : (site m n : ℕ) → m ≤ n → (gs : List Got) → AreKnown site m gs → AreKnown site n gs

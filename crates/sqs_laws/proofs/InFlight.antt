@@ -11,7 +11,7 @@ use Rattle.sqs_message.specs.declared.row.RowKind.{RowKind}
 use Rattle.sqs_message.specs.declared.row.RowKind.TheVariants as kinds
 use Rattle.sqs_redrive.specs.declared.settings.QueueSettings.{QueueSettings}
 use Rattle.sqs_model.specs.Accounts.{is_deleted, is_expired}
-use Rattle.sqs_model.specs.Queue.{Queue, id_of, is_in_flight}
+use Rattle.sqs_model.specs.Queue.{Queue, id_of, is_in_flight, in_flight}
 use Rattle.sqs_model.specs.Run.{IsRunOf, Run}
 use Rattle.sqs_model.specs.Scenario.{Scenario}
 use Rattle.sqs_model.specs.Valid.{IsQueueSettings}
@@ -21,8 +21,11 @@ use Rattle.sqs_laws.specs.Words as words
 use Rattle.sqs_laws.proofs.Calls.{visible_rests}
 use Rattle.sqs_laws.proofs.End as end
 use Rattle.sqs_laws.proofs.Letters as letter
-use Rattle.sqs_laws.proofs.Limit.{counts_sum, limits, sums}
+use Rattle.sqs_laws.proofs.Limit.{flying_count, limits}
+use Rattle.sqs_laws.proofs.Flights.{flies_of, flights}
 use Rattle.sqs_laws.proofs.Moves.{does_keep, Keeps, Does, IsStocked, Move, Names, changes, comes, ends, receives, redrives, releases, stays}
+use Rattle.sqs_laws.proofs.Slots.{of_there}
+use Rattle.sqs_laws.proofs.Said.{none_leaves}
 use Rattle.sqs_laws.proofs.Worlds.{RowLaw, both, every_row_by}
 
 -- a redrive is no move
@@ -34,21 +37,15 @@ or_either : (a b : Bool) → (a || b) ≡ true → (a ≡ true) ⊎ (b ≡ true)
 or_either true b e = inl refl
 or_either false b e = inr e
 
--- a row that tells of none that leaves is no redrive and no move
-none_leaves : (r : Row) → words.leaves r ≡ false → (is_redrive r.kind ≡ false) × (is_move r.kind ≡ false)
-none_leaves r l =
-    let a = or_parts (is_deleted r.answer || is_expired r.answer || is_redrive r.kind) (is_move r.kind) l in
-    ((or_parts (is_deleted r.answer || is_expired r.answer) (is_redrive r.kind) a.0).1, a.1)
-
 module _ (s : Scenario) (v : All IsQueueSettings s.queues) where
   abbrev told : RowLaw s
-  told = both s (letter.letters s v) (both s (end.the_end s) (limits s))
+  told = both s (letter.letters s v) (both s (end.the_end s) (both s (flights s) (limits s)))
 
   module _ (rows : List Row) (key : Key) (q : Queue) (r : Row) (p : Queue) (d : Move key q r p) (k : IsStocked q) (h : told.Holds rows q) where
     names_flight : (one : Message) (n : ℕ) (m : MessageId) (b : Bool) → Names key q r p one n → r.message ≡ Some m → is_in_flight one ≡ b → flying m rows ≡ b
     names_flight one n m b x e f =
         let i : id_of q n ≡ m = cc in
-        subst (λ y. flying y rows ≡ b) i (h.1.1.0.flies n one x.there ∙ f)
+        subst (λ y. flying y rows ≡ b) i (flies_of s rows q h.1.1.0 n one x.there ∙ f)
 
     neither : words.received r ≡ false → is_move r.kind ≡ false → (words.received r || is_move r.kind) ≡ true → ⊥
     neither a b t = true≢false (sym t ∙ (rw (a, b) refl))
@@ -78,7 +75,7 @@ module _ (s : Scenario) (v : All IsQueueSettings s.queues) where
     flies_by (changes x) m e t = names_flight x.one x.number m true x.names e x.flies
     flies_by (redrives x) m e t =
         let least : x.policy.max_receives ≤ x.one.receives = leb-true x.policy.max_receives x.one.receives x.worn in
-        names_flight x.one x.number m true x.names e (worn_flies (is_in_flight x.one) x.one x.policy.max_receives (h.0.within x.policy x.by x.number x.one x.names.there) least refl)
+        names_flight x.one x.number m true x.names e (worn_flies (is_in_flight x.one) x.one x.policy.max_receives ((of_there s (letter.letter_law s v) rows q h.0 x.number x.one x.names.there).1 x.policy x.by) least refl)
     flies_by (ends x) m e t = absurd (none_changed x.tells.changed_so x.kind t)
     flies_by (stays x) m e t = absurd (none_changed x.tells.changed_so (none_leaves r x.tells.leaves_so).0 t)
     flies_by (comes x) m e t = absurd (none_changed x.tells.changed_so (none_leaves r x.tells.leaves_so).0 t)
@@ -93,26 +90,17 @@ module _ (s : Scenario) (v : All IsQueueSettings s.queues) where
         let site : r.queue ≡ p.site = d.at_site ∙ keeps.site in
         let same : slice_get s.queues r.queue ≡ Some p.settings = ap (λ n. slice_get s.queues n) site ∙ j.0.settings in
         let is : settings ≡ p.settings = cc in
-        let came : comings r.queue all ≡ p.arrivals = ap (λ n. comings n all) site ∙ j.1.0.came in
-        let counted : in_flight_at r.queue all ≡ sums (comings r.queue all) (λ i. flying (record { site = r.queue; number = i }) all) = counts_sum r.queue (comings r.queue all) (λ m. flying m all) in
-        let moved : sums (comings r.queue all) (λ i. flying (record { site = r.queue; number = i }) all) ≡ sums p.arrivals (λ i. flying (id_of p i) all) =
-        ap (λ n. sums n (λ i. flying (record { site = r.queue; number = i }) all)) came ∙ ap (λ n. sums p.arrivals (λ i. flying (record { site = n; number = i }) all)) site in
+        let came : comings r.queue all ≡ p.arrivals = ap (λ n. comings n all) site ∙ j.1.0.0 in
+        let counted : in_flight_at p.site all ≡ in_flight p = flying_count s all p keeps.stocked j.1.1.0 (sym (ap (λ n. comings n all) site) ∙ came) in
+        let here : in_flight_at r.queue all ≡ in_flight_at p.site all = ap (λ n. in_flight_at n all) site in
         let most : p.settings.in_flight_limit ≡ settings.in_flight_limit = ap (λ (x : QueueSettings). x.in_flight_limit) (sym is) in
-        omega (arith, counted, moved, j.1.1.1.count, j.1.1.1.most, most)
-
-  -- what the law says of a row
-  record IsAsTold (before : List Row) (r : Row) : Type 0 where
-    pub once : (m : MessageId) → r.message ≡ Some m → (words.received r || is_move r.kind) ≡ true → flying m before ≡ false
-    pub flies : (m : MessageId) → r.message ≡ Some m → (changed r || is_redrive r.kind) ≡ true → flying m before ≡ true
-    pub limit : (settings : QueueSettings) → slice_get s.queues r.queue ≡ Some settings → in_flight_at r.queue (before ++ r ∷ []) ≤ settings.in_flight_limit
+        omega (arith, here, counted, j.1.1.1, most)
 
   -- the law
   pub flights_are_told : (x : Run) → IsRunOf s x → InFlight s x.rows
   flights_are_told x is =
-      let each : EachRow x.rows IsAsTold =
-      every_row_by s told IsAsTold (λ rows key q r p d g k h j. record { once = once_by rows key q r p d k h d.does; flies = flies_by rows key q r p d k h d.does; limit = limit_by rows key q r p d k h j }) x is in
       record {
-        once = λ before r after e m i t. (each before r after e).once m i t;
-        flies = λ before r after e m i t. (each before r after e).flies m i t;
-        limit = λ before r after e settings f. (each before r after e).limit settings f;
+        once = every_row_by s told _ (λ rows key q r p now d g k h j. once_by rows key q r p d k h d.does) x is;
+        flies = every_row_by s told _ (λ rows key q r p now d g k h j. flies_by rows key q r p d k h d.does) x is;
+        limit = every_row_by s told _ (λ rows key q r p now d g k h j. limit_by rows key q r p d k h j) x is;
       }

@@ -31,6 +31,7 @@ use Rattle.sqs_laws.proofs.Letters as letters
 use Rattle.sqs_laws.proofs.Moves.{IsStocked}
 use Rattle.sqs_laws.proofs.Numbers.{found_all, found_by, none_below}
 use Rattle.sqs_laws.proofs.Origins as origins
+use Rattle.sqs_laws.proofs.Slots.{of_there}
 use Rattle.sqs_laws.proofs.Worlds.{AreNumbered, IsGood, RowLaw, both, every_site}
 
 -- a run has as many sites at its end as at its opening
@@ -53,7 +54,7 @@ same_after horizon zero start = refl
 same_after horizon (suc n) start =
     let r : Run = after horizon n start in same_stepped r (next_due horizon r.sites) ∙ same_after horizon n start
 
-all_sites : (s : Scenario) (r : Run) → IsRunOf s r → length r.sites ≡ length s.queues
+pub all_sites : (s : Scenario) (r : Run) → IsRunOf s r → length r.sites ≡ length s.queues
 all_sites s r is =
     let many : length (after s.horizon is.steps (opening s)).sites ≡ length s.queues =
     same_after s.horizon is.steps (opening s) ∙ length-map (enumerate_from 0 s.queues) (opening_site s) ∙ length-enumerate_from 0 s.queues in
@@ -61,10 +62,10 @@ all_sites s r is =
 
 -- the numbers from one on at which there is a message are those of the messages, if these go up from there
 module _ (q : Queue) (g : MessageId → Bool) where
-  abbrev id : ℕ → MessageId
+  abbrev pub id : ℕ → MessageId
   id i = record { site = q.site; number = i }
 
-  abbrev Agrees : ℕ → ℕ → List Message → Type 0
+  abbrev pub Agrees : ℕ → ℕ → List Message → Type 0
   Agrees low many ms = (i : ℕ) → low ≤ i → i < low + many → g (id i) ≡ is_some (numbered i ms)
 
   kept_at : (b : Bool) (many low : ℕ) → g (id low) ≡ b → filter g (map id (range_with_len low (suc many))) ≡ cond b (id low ∷ filter g (map id (range_with_len (low + 1) many))) (filter g (map id (range_with_len (low + 1) many)))
@@ -72,7 +73,7 @@ module _ (q : Queue) (g : MessageId → Bool) where
   kept_at false many low e = rw e refl
 
   -- that this is so
-  abbrev Stays : ℕ → ℕ → Type 0
+  abbrev pub Stays : ℕ → ℕ → Type 0
   Stays low many = (ms : List Message) → Climbs low ms → All (λ m. m.number < low + many) ms → Agrees low many ms → map (λ m. id_of q m.number) ms ≡ filter g (map id (range_with_len low many))
 
   fewer : (many low : ℕ) (ms : List Message) → All (λ m. m.number < low + suc many) ms → All (λ m. m.number < low + 1 + many) ms
@@ -92,7 +93,7 @@ module _ (q : Queue) (g : MessageId → Bool) where
       let none : g (id low) ≡ false = h low (omega arith) (omega arith) ∙ none_below low (m ∷ ms) up in
       on (m ∷ ms) up (fewer many low (m ∷ ms) l) (λ i a b. h i (omega (arith, a)) (omega (arith, b))) ∙ sym (kept_at false many low none)
 
-  stays_from : (many low : ℕ) → Stays low many
+  pub stays_from : (many low : ℕ) → Stays low many
   stays_from zero low [] c l h = refl
   stays_from zero low (m ∷ ms) c l h =
       let less : m.number < low + 0 = All-head (λ x. x.number < low + 0) m ms l in absurd (omega (arith, c.0, less))
@@ -101,7 +102,7 @@ module _ (q : Queue) (g : MessageId → Bool) where
       stays_from many (low + 1) [] tt (fewer many low [] l) (λ i a b. h i (omega (arith, a)) (omega (arith, b))) ∙ sym (kept_at false many low none)
   stays_from (suc many) low (m ∷ ms) c l h = stays_at (m.number == low) many low m ms (stays_from many (low + 1)) c l h refl
 
-from_none : (many : ℕ) (ms : List Message) → All (λ m. m.number < many) ms → All (λ m. m.number < 0 + many) ms
+pub from_none : (many : ℕ) (ms : List Message) → All (λ m. m.number < many) ms → All (λ m. m.number < 0 + many) ms
 from_none many ms l = All-weaker (λ m. m.number < many) (λ m. m.number < 0 + many) (λ m k. omega (arith, k)) ms l
 
 map_finals : (q : Queue) (ms : List Message) → map (λ (m : FinalMessage). m.id) (map (final_message q) ms) ≡ map (λ m. id_of q m.number) ms
@@ -131,65 +132,37 @@ module _ (s : Scenario) (valid : All IsQueueSettings s.queues) where
     tells_all : (q : Queue) (Q : FinalMessage → Type 0) → IsStocked q → ((n : ℕ) (m : Message) → numbered n q.records ≡ Some m → n ≡ m.number → Q (final_message q m)) → All Q (map (final_message q) q.records)
     tells_all q Q k h = All-map Q (final_message q) q.records (found_all (λ m. Q (final_message q m)) 0 q.records k.ordered h)
 
-    -- the messages of one site
-    record SaysSite (x : Site) : Type 0 where
-      pub ids : map (λ (m : FinalMessage). m.id) (messages_at x) ≡ that_stay (number_of x.core) rows
-      pub flies : All Flies (messages_at x)
-      pub received : All Received (messages_at x)
-      pub origins : All HasOrigin (messages_at x)
-
-    site_says : (x : Site) → IsGood s told rows x → SaysSite x
-    site_says x g =
+    -- the messages of one site, and so of all
+    site_ids : (x : Site) → IsGood s told rows x → map (λ (m : FinalMessage). m.id) (messages_at x) ≡ that_stay (number_of x.core) rows
+    site_ids x g =
         let q : Queue = x.core.queue in
         let k : IsStocked q = g.order.stocked in
-        let came : comings q.site rows ≡ q.arrivals = g.holds.0.0.came in
         let stays : (i : ℕ) → 0 ≤ i → i < 0 + q.arrivals → not (has_left (id_of q i) rows) ≡ is_some (numbered i q.records) =
-        λ i a b. ap not (g.holds.0.0.left i (omega (arith, b))) ∙ not_none (numbered i q.records) in
-        record {
-          ids =
-              map_finals q q.records ∙ stays_from q (λ m. not (has_left m rows)) q.arrivals 0 q.records k.ordered (from_none q.arrivals q.records k.given_out) stays
-              ∙ ap (λ n. filter (λ m. not (has_left m rows)) (map (id q (λ m. true)) (range_with_len 0 n))) (sym came);
-          flies = tells_all q Flies k (λ n m e o. sym (subst (λ j. flying (id_of q j) rows ≡ flies_there m) o (g.holds.0.1.flies n m e)));
-          received = tells_all q Received k (λ n m e o. sym (subst (λ j. times (id_of q j) rows ≡ m.receives) o (g.holds.1.0.received n m e)));
-          origins = tells_all q HasOrigin k (λ n m e o. subst (λ j. origin_of (id_of q j) rows ≡ Some m.origin) o (g.holds.1.1.told n m e));
-        }
+        λ i a b. ap not (end.left_of s rows q g.holds.0.0.1 i (omega (arith, b))) ∙ not_none (numbered i q.records) in
+        map_finals q q.records ∙ stays_from q (λ m. not (has_left m rows)) q.arrivals 0 q.records k.ordered (from_none q.arrivals q.records k.given_out) stays
+        ∙ ap (λ n. filter (λ m. not (has_left m rows)) (map (id q (λ m. true)) (range_with_len 0 n))) (sym g.holds.0.0.0)
 
-    -- the messages of all sites
-    record SaysSites (n : ℕ) (sites : List Site) : Type 0 where
-      pub ids : map (λ (m : FinalMessage). m.id) (flat_map messages_at sites) ≡ flat_map (λ i. that_stay i rows) (range_with_len n (length sites))
-      pub flies : All Flies (flat_map messages_at sites)
-      pub received : All Received (flat_map messages_at sites)
-      pub origins : All HasOrigin (flat_map messages_at sites)
+    all_ids : (n : ℕ) (sites : List Site) → All (IsGood s told rows) sites → AreNumbered s told n sites → map (λ (m : FinalMessage). m.id) (flat_map messages_at sites) ≡ flat_map (λ i. that_stay i rows) (range_with_len n (length sites))
+    all_ids n [] g a = refl
+    all_ids n (x ∷ xs) g a =
+        map-append (λ (m : FinalMessage). m.id) (messages_at x) (flat_map messages_at xs)
+        ∙ ap (λ ids. ids ++ map (λ (m : FinalMessage). m.id) (flat_map messages_at xs)) (site_ids x (All-head (IsGood s told rows) x xs g) ∙ ap (λ i. that_stay i rows) a.0)
+        ∙ ap (λ ids. that_stay n rows ++ ids) (all_ids (n + 1) xs (All-tail (IsGood s told rows) x xs g) a.1)
 
-    sites_say : (n : ℕ) (sites : List Site) → All (IsGood s told rows) sites → AreNumbered s told n sites → SaysSites n sites
-    sites_say n [] g a =
-        record {
-          ids = refl;
-          flies = All-nil Flies;
-          received = All-nil Received;
-          origins = All-nil HasOrigin;
-        }
-    sites_say n (x ∷ xs) g a =
-        let one : SaysSite x = site_says x (All-head (IsGood s told rows) x xs g) in
-        let rest : SaysSites (n + 1) xs = sites_say (n + 1) xs (All-tail (IsGood s told rows) x xs g) a.1 in
-        record {
-          ids =
-              map-append (λ (m : FinalMessage). m.id) (messages_at x) (flat_map messages_at xs)
-              ∙ ap (λ ids. ids ++ map (λ (m : FinalMessage). m.id) (flat_map messages_at xs)) (one.ids ∙ ap (λ i. that_stay i rows) a.0)
-              ∙ ap (λ ids. that_stay n rows ++ ids) rest.ids;
-          flies = All-append Flies (messages_at x) (flat_map messages_at xs) one.flies rest.flies;
-          received = All-append Received (messages_at x) (flat_map messages_at xs) one.received rest.received;
-          origins = All-append HasOrigin (messages_at x) (flat_map messages_at xs) one.origins rest.origins;
-        }
+    all_told : (Q : FinalMessage → Type 0) → ((x : Site) → IsGood s told rows x → (n : ℕ) (m : Message) → numbered n x.core.queue.records ≡ Some m → n ≡ m.number → Q (final_message x.core.queue m)) → (sites : List Site) → All (IsGood s told rows) sites → All Q (flat_map messages_at sites)
+    all_told Q f [] g = All-nil Q
+    all_told Q f (x ∷ xs) g =
+        let one : IsGood s told rows x = All-head (IsGood s told rows) x xs g in
+        All-append Q (messages_at x) (flat_map messages_at xs) (tells_all x.core.queue Q one.order.stocked (f x one)) (all_told Q f xs (All-tail (IsGood s told rows) x xs g))
 
   pub left_is_told : (r : Run) → IsRunOf s r → WhatIsLeft s r.rows (finals_of r.sites).messages
   unfolding finals_of
   left_is_told r is =
       let every = every_site s told r is in
-      let says : SaysSites r.rows 0 r.sites = sites_say r.rows 0 r.sites every.0 every.1 in
+      let rows : List Row = r.rows in
       record {
-        messages = says.ids ∙ ap (λ n. flat_map (λ i. that_stay i r.rows) (range_with_len 0 n)) (all_sites s r is);
-        in_flight = says.flies;
-        received = says.received;
-        origins = says.origins;
+        messages = all_ids rows 0 r.sites every.0 every.1 ∙ ap (λ n. flat_map (λ i. that_stay i rows) (range_with_len 0 n)) (all_sites s r is);
+        in_flight = all_told rows (Flies rows) (λ x g n m e o. let q : Queue = x.core.queue in sym (subst (λ j. flying (id_of q j) rows ≡ flies_there m) o (fly.flies_of s rows q g.holds.0.1 n m e))) r.sites every.0;
+        received = all_told rows (Received rows) (λ x g n m e o. let q : Queue = x.core.queue in sym (subst (λ j. times (id_of q j) rows ≡ m.receives) o ((of_there s (letters.letter_law s valid) rows q g.holds.1.0 n m e).0))) r.sites every.0;
+        origins = all_told rows (HasOrigin rows) (λ x g n m e o. let q : Queue = x.core.queue in subst (λ j. origin_of (id_of q j) rows ≡ Some m.origin) o (of_there s (origins.origin_law s) rows q g.holds.1.1 n m e)) r.sites every.0;
       }

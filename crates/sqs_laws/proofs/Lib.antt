@@ -4,10 +4,11 @@ pub mod Giving
 pub mod Rows
 pub mod Holding
 pub mod Chains
+pub mod Moments
 pub mod Worlds
 pub mod Said
+pub mod Slots
 pub mod End
-pub mod Each
 pub mod Letters
 pub mod Order
 pub mod Rules
@@ -17,6 +18,7 @@ pub mod Limit
 pub mod InFlight
 pub mod Origins
 pub mod Left
+pub mod Lasts
 pub mod Apart
 pub mod Reach
 pub mod Sent
@@ -24,6 +26,7 @@ pub mod Journeys
 pub mod Told
 pub mod Ages
 pub mod Numbers
+pub mod Polled
 pub mod Gives
 pub mod Turns
 pub mod Naming
@@ -31,3 +34,5 @@ pub mod Next
 pub mod Sends
 pub mod Fifo
 pub mod Repeats
+pub mod Delays
+pub mod Releases

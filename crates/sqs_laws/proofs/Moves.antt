@@ -1,5 +1,5 @@
 -- What a row of a handling did to its queue.
-use Rattle.std.specs.Prelude.{All, Bool, length, slice_get, Err, List, None, Ok, Option, Result, Some, [], false, true, ℕ, ◌+◌, ◌++◌, ◌<◌, ◌∷◌, ◌≡◌, ◌≤◌, ◌⊎◌, ◌-◌, ◌&&◌, ◌||◌}
+use Rattle.std.specs.Prelude.{All, Bool, length, slice_get, Err, List, None, Ok, Option, Result, Some, [], false, true, ℕ, if◌then◌else◌, ◌*◌, ◌+◌, ◌++◌, ◌<◌, ◌==◌, ◌∷◌, ◌≡◌, ◌≤◌, ◌⊎◌, ◌-◌, ◌&&◌, ◌||◌}
 use Rattle.std.proofs.Common.{ap, arith, inl, inr, refl, subst, sym, true≢false, ◌∙◌}
 use Rattle.std.proofs.Math.Bool.{and-false}
 use Rattle.std.proofs.lemmas.List.{append-nil, append_assoc}
@@ -10,6 +10,8 @@ use Rattle.sim_clock.specs.declared.refusal.Refusal.TheVariants as refusals
 use Rattle.sqs_message.specs.declared.ids.MessageId.{MessageId}
 use Rattle.sqs_message.specs.declared.ids.Receipt.{Receipt}
 use Rattle.sqs_message.specs.declared.message.Message.{Message}
+use Rattle.sqs_message.specs.declared.message.Place.{Place}
+use Rattle.sqs_message.specs.declared.message.Place.TheVariants as places
 use Rattle.sqs_message.specs.declared.row.Detail.TheVariants as details
 use Rattle.sqs_message.specs.declared.row.Row.{Row}
 use Rattle.sqs_message.specs.declared.row.RowAnswer.{RowAnswer}
@@ -24,7 +26,12 @@ use Rattle.sqs_redrive.specs.declared.settings.Policy.{Policy}
 use Rattle.sqs_redrive.specs.declared.transfers.Load.{Load}
 use Rattle.sqs_redrive.specs.MoveTasks.{is_worn}
 use Rattle.md5.specs.Md5.{md5}
+use Rattle.sqs_message.specs.declared.calls.Call.TheVariants as calls
+use Rattle.sqs_message.specs.declared.calls.ScriptCall.{ScriptCall}
 use Rattle.sqs_model.specs.declared.agents.ActorSettings.{ActorSettings}
+use Rattle.sqs_model.specs.declared.agents.Role.{Role}
+use Rattle.sqs_model.specs.declared.agents.Role.TheVariants.{Consumer, Producer, Scaler, Script}
+use Rattle.sqs_model.specs.Actor.{Actor}
 use Rattle.sqs_model.specs.Accounts.{is_deleted, is_expired, origin_in}
 use Rattle.sqs_model.specs.Queue.{Entry, Queue, has_number, id_of, in_flight, is_in_flight, is_visible, numbered, same_group, taken_out, with_change}
 use Rattle.sqs_model.specs.Calls.{change, delete, in_flight_until, with_message}
@@ -33,17 +40,38 @@ use Rattle.sqs_model.specs.Receive.{received}
 use Rattle.sqs_model.specs.Progress.{IsSoundRole}
 use Rattle.sqs_model.specs.Return.{leaves, visible_again}
 use Rattle.sqs_model.specs.Scenario.{Scenario}
+use Rattle.sqs_model.proofs.Branches.{either}
 use Rattle.sqs_model.proofs.Counts.{all_changed, all_without, ascends_changed, ascends_push, ascends_without}
-use Rattle.sqs_model.proofs.Members.{In, of_all}
+use Rattle.sqs_model.proofs.Members.{In, in_left, of_all}
 use Rattle.sqs_model.proofs.Numbered.{Climbs}
+use Rattle.sqs_model.specs.Site.{Core, Poll}
+use Rattle.sqs_model.proofs.Sending.{IsForward}
 use Rattle.sqs_model.proofs.SiteAccounts.{IsFound}
-use Rattle.sqs_laws.specs.Sends.{Given, GivesAs, IsByCall, IsSender, key_given}
-use Rattle.sqs_laws.specs.Laws.{is_fifo}
+use Rattle.sqs_model.specs.Task.{Task}
+use Rattle.sqs_redrive.specs.declared.transfers.Outbound.{Outbound}
+use Rattle.sqs_laws.specs.Sends.{AsksBy, Given, GivesAs, IsByCall, IsSender, delay_given, key_given, milliseconds_or}
+use Rattle.sqs_laws.specs.Laws.{is_actor_of, is_fifo}
 use Rattle.sqs_laws.specs.Words as words
 
 -- a deduplication entry of a queue, or a new one of the message that comes to it, which lives for 5 minutes
 abbrev pub IsEntered : Key → Queue → Entry → Type 0
 IsEntered key q e = In q.entries e ⊎ ((e.number ≡ q.arrivals) × (e.end ≡ key.at + deduplication_interval))
+
+-- a message that comes at a moment and waits for the end of its delay, if it has one
+pub record Waits (at delay : ℕ) (m : Message) : Type 0 where
+  pub place : m.place ≡ (if delay == 0 then places.Visible else places.Delayed)
+  pub release : m.release ≡ (if delay == 0 then None else Some (at + delay))
+
+-- what is sent has the delay that is given, and at a FIFO queue the group
+pub record IsGiven (q : Queue) (at : ℕ) (x : Given) (m : Message) : Type 0 where
+  pub delay : Waits at (delay_given q.settings x) m
+  pub group : is_fifo q.settings.kind ≡ true → m.group ≡ x.group
+
+-- so it is not in flight
+pub waits_rest : (at delay : ℕ) (m : Message) → Waits at delay m → is_in_flight m ≡ false
+waits_rest at delay m w =
+    let flies : Place → Bool = λ p. elim p as (λ _. Bool) [ places.Delayed ↦ false | places.Visible ↦ false | places.InFlight ↦ true ] in
+    ap flies w.place ∙ either (λ p. flies p ≡ false) (delay == 0) places.Visible places.Delayed refl refl
 
 -- what a row tells of a message: whether it comes, is received, is changed, is released or leaves
 pub record Tells (r : Row) (comes received changed released leaves : Bool) : Type 0 where
@@ -107,7 +135,9 @@ module _ (key : Key) (q : Queue) (r : Row) (p : Queue) where
     pub message : r.message ≡ Some (id_of q q.arrivals)
     pub number : one.number ≡ q.arrivals
     pub fresh : one.receives ≡ 0
-    pub rests : is_in_flight one ≡ false
+    pub delay : ℕ
+    pub waits : Waits key.at delay one
+    pub arrives : words.is_send r.kind ≡ false → (delay ≡ 0) ⊎ (delay ≡ q.settings.delay)
     pub told : origin_in r (Some (id_of q q.arrivals)) ≡ Some one.origin
     pub sent : words.is_send r.kind ≡ true → (one.enqueued ≡ key.at) × (one.source ≡ None)
     pub entered : All (IsEntered key q) entries
@@ -136,11 +166,12 @@ module _ (key : Key) (q : Queue) (r : Row) (p : Queue) where
   pub record Changes : Type 0 where
     pub one : Message
     pub number : ℕ
-    pub end : ℕ
+    pub timeout : ℕ
     pub tells : Tells r false false true false false
     pub names : Names one number
     pub flies : is_in_flight one ≡ true
-    pub after : with_change q number (in_flight_until end) ≡ p
+    pub told : r.detail ≡ details.Timeout timeout
+    pub after : with_change q number (in_flight_until (key.at + 1000 * timeout)) ≡ p
 
   -- it may be received again
   pub record Releases : Type 0 where
@@ -148,6 +179,7 @@ module _ (key : Key) (q : Queue) (r : Row) (p : Queue) where
     pub number : ℕ
     pub tells : Tells r false false false true false
     pub names : Names one number
+    pub due : one.release ≡ Some key.at
     pub lasts : leaves q.settings.policy one ≡ false
     pub after : with_change q number visible_again ≡ p
 
@@ -158,6 +190,7 @@ module _ (key : Key) (q : Queue) (r : Row) (p : Queue) where
     pub policy : Policy
     pub tells : Tells r false false false false true
     pub names : Names one number
+    pub due : one.release ≡ Some key.at
     pub by : q.settings.policy ≡ Some policy
     pub worn : is_worn policy one ≡ true
     pub kind : words.is_redrive r.kind ≡ true
@@ -212,26 +245,64 @@ pub record RepeatsEntry (s : Scenario) (q : Queue) (r : Row) : Type 0 where
   pub lives : r.key.at < entry.end
   pub same : words.is_send r.kind ≡ true → HasKey s q r entry
 
+-- a receive of a script that may give messages at a moment: it is made then, or a row tells that it has begun to wait
+pub record IsCalled (past : List Row) (at : ℕ) (timeout : Option ℕ) (c : ScriptCall) : Type 0 where
+  pub most : ℕ
+  pub wait : ℕ
+  pub call : c.call ≡ calls.Receive most wait timeout
+  pub begun : (c.at ≡ at) ⊎ ((w : Row) × In past w × (w.key.at ≡ c.at))
+  pub waits : at ≤ c.at + 1000 * wait
+
+abbrev pub IsAskedFor : Scenario → List Row → ℕ → ℕ → Option ℕ → Type 0
+IsAskedFor s past agent at timeout = (a : ActorSettings) × (slice_get s.actors (agent - length s.queues) ≡ Some a) × AsksBy (IsCalled past at timeout) a.role timeout
+
+pub asks_as : (C D : ScriptCall → Type 0) → ((c : ScriptCall) → C c → D c) → (role : Role) (timeout : Option ℕ) → AsksBy C role timeout → AsksBy D role timeout
+asks_as C D f (Script cs) timeout x = (x.0, x.1, f x.0 x.2)
+asks_as C D f (Consumer c) timeout x = x
+asks_as C D f (Producer p) timeout x = absurd x
+asks_as C D f (Scaler s) timeout x = absurd x
+
+pub asks_later : (s : Scenario) (past more : List Row) (agent at : ℕ) (timeout : Option ℕ) → IsAskedFor s past agent at timeout → IsAskedFor s (past ++ more) agent at timeout
+asks_later s past more agent at timeout (a, e, x) = (a, e, asks_as (IsCalled past at timeout) (IsCalled (past ++ more) at timeout) (λ c y. record { most = y.most; wait = y.wait; call = y.call; waits = y.waits; begun = elim y.begun as (λ _. (c.at ≡ at) ⊎ ((w : Row) × In (past ++ more) w × (w.key.at ≡ c.at))) [ inl n ↦ inl n | inr w ↦ inr (w.0, in_left past more w.0 w.1, w.2) ] }) a.role timeout x)
+
+-- what is received is in flight until the end of the timeout that its receive asked for
+pub record IsTimed (s : Scenario) (past : List Row) (q : Queue) (r : Row) (one : Message) : Type 0 where
+  pub timeout : Option ℕ
+  pub asked : IsAskedFor s past r.agent r.key.at timeout
+  pub release : one.release ≡ Some (r.key.at + milliseconds_or q.settings.visibility timeout)
+
 -- What a row has to do with the settings, and with the rows before it. What is sent is what its actor gives, with its group and
 -- with an entry of its deduplication id. What a FIFO queue gives is the next of its group, and what is repeated has an entry.
 pub record IsBehind (s : Scenario) (past : List Row) (q : Queue) (r : Row) (p : Queue) : Type 0 where
-  pub given : (words.is_send r.kind && words.comes r) ≡ true → is_fifo q.settings.kind ≡ true → (m : Message) → numbered q.arrivals p.records ≡ Some m → All (λ a. IsSoundRole a.role) s.actors → (x : Given) → GivesAs s r.agent r.key.at x → m.group ≡ x.group
+  pub given : (words.is_send r.kind && words.comes r) ≡ true → (m : Message) → numbered q.arrivals p.records ≡ Some m → All (λ a. IsSoundRole a.role) s.actors → (x : Given) → GivesAs s r.agent r.key.at x → IsGiven q r.key.at x m
   pub next : words.received r ≡ true → is_fifo q.settings.kind ≡ true → (n : ℕ) (one : Message) → r.message ≡ Some (id_of q n) → numbered n q.records ≡ Some one → IsNext past q r n one
+  pub timed : words.received r ≡ true → (n : ℕ) (one : Message) → r.message ≡ Some (id_of q n) → numbered n p.records ≡ Some one → IsTimed s past q r one
   pub repeats : words.is_repeat r.answer ≡ true → RepeatsEntry s q r
   pub sends : (words.is_send r.kind && words.comes r) ≡ true → (a : ActorSettings) → slice_get s.actors (r.agent - length s.queues) ≡ Some a → IsSender a.role → (x : Given) × GivesAs s r.agent r.key.at x × (r.detail ≡ details.Digest (md5 x.body))
+  pub arrives : words.comes r ≡ true → words.is_send r.kind ≡ false → is_actor_of s r.agent ≡ true → (m : Message) → numbered q.arrivals p.records ≡ Some m → Waits r.key.at q.settings.delay m
   pub enters : (words.is_send r.kind && words.comes r) ≡ true → (e : Entry) → In p.entries e → e.number ≡ q.arrivals → HasKey s q r e
 
 -- of a row by which nothing is sent, received or repeated there is nothing to say
-pub of_none : (s : Scenario) (past : List Row) (q : Queue) (r : Row) (p : Queue) → (words.is_send r.kind && words.comes r) ≡ false → words.received r ≡ false → words.is_repeat r.answer ≡ false → IsBehind s past q r p
-of_none s past q r p a b c = record { sends = λ e. absurd (true≢false (sym e ∙ a)); enters = λ e. absurd (true≢false (sym e ∙ a)); repeats = λ e. absurd (true≢false (sym e ∙ c)); given = λ e f m h k x i. absurd (true≢false (sym e ∙ a)); next = λ e f n one g h. absurd (true≢false (sym e ∙ b)) }
+pub of_none : (s : Scenario) (past : List Row) (q : Queue) (r : Row) (p : Queue) → words.comes r ≡ false → words.received r ≡ false → words.is_repeat r.answer ≡ false → IsBehind s past q r p
+of_none s past q r p n b c =
+    let a : (words.is_send r.kind && words.comes r) ≡ false = ap (λ x. words.is_send r.kind && x) n ∙ and-false (words.is_send r.kind) in
+    record { arrives = λ e. absurd (true≢false (sym e ∙ n)); sends = λ e. absurd (true≢false (sym e ∙ a)); enters = λ e. absurd (true≢false (sym e ∙ a)); repeats = λ e. absurd (true≢false (sym e ∙ c)); given = λ e m h k x i. absurd (true≢false (sym e ∙ a)); next = λ e f n one g h. absurd (true≢false (sym e ∙ b)); timed = λ e n one g h. absurd (true≢false (sym e ∙ b)) }
 
 pub tells_none : (s : Scenario) (past : List Row) (q : Queue) (r : Row) (p : Queue) (x y z : Bool) → Tells r false false x y z → words.is_repeat r.answer ≡ false → IsBehind s past q r p
-tells_none s past q r p x y z t n = of_none s past q r p (ap (λ b. words.is_send r.kind && b) t.comes_so ∙ and-false (words.is_send r.kind)) t.received_so n
+tells_none s past q r p x y z t n = of_none s past q r p t.comes_so t.received_so n
 
 -- rows one after another, behind the rows of the run so far
 abbrev pub Chain : Scenario → List Row → Key → Queue → List Row → Queue → Type 0
 Chain s past key q [] p = q ≡ p
 Chain s past key q (r ∷ rs) p = (x : Queue) × Move key q r x × IsBehind s past q r x × Chain s (past ++ r ∷ []) key x rs p
+
+-- a site's actors and tasks, and the polls that wait there
+abbrev pub actors_of : Core → List Actor × List Poll × List Task
+actors_of c = (c.actors, c.polls, c.tasks)
+
+-- an actor sends nothing but forwards
+abbrev pub FitsSender : Scenario → Outbound → Type 0
+FitsSender s o = is_actor_of s o.sender ≡ true → IsForward o.load
 
 -- the messages of a queue are in the order of their numbers, and these and those of its entries were all given out
 pub record IsStocked (q : Queue) : Type 0 where
@@ -298,7 +369,7 @@ pub does_keep : (key : Key) (q : Queue) (r : Row) (p : Queue) → Does key q r p
 does_keep key q r p (stays d) s = keeps_same q p d.same s
 does_keep key q r p (comes d) s = subst (Keeps q) d.after (pushed_keeps q d.one d.entries d.number (all_old key q d.entries s d.entered) s)
 does_keep key q r p (receives d) s = subst (Keeps q) d.after (changed_keeps q d.number (received key.at d.timeout) (λ m. refl) s)
-does_keep key q r p (changes d) s = subst (Keeps q) d.after (changed_keeps q d.number (in_flight_until d.end) (λ m. refl) s)
+does_keep key q r p (changes d) s = subst (Keeps q) d.after (changed_keeps q d.number (in_flight_until (key.at + 1000 * d.timeout)) (λ m. refl) s)
 does_keep key q r p (releases d) s = subst (Keeps q) d.after (changed_keeps q d.number visible_again (λ m. refl) s)
 does_keep key q r p (redrives d) s = subst (Keeps q) d.after (taken_keeps q d.number s)
 does_keep key q r p (ends d) s = subst (Keeps q) d.after (taken_keeps q d.number s)
@@ -317,6 +388,16 @@ chain_append s past key (r ∷ rs) ss q x p (y, m, g, c) d =
 
 pub one_move : (s : Scenario) (past : List Row) (key : Key) (q : Queue) (r : Row) (p : Queue) → Move key q r p → IsBehind s past q r p → Chain s past key q (r ∷ []) p
 one_move s past key q r p m g = (p, m, g, refl)
+
+-- only what is received is told so
+pub received_by : (key : Key) (q : Queue) (r : Row) (p : Queue) → Does key q r p → words.received r ≡ true → Receives key q r p
+received_by key q r p (receives d) t = d
+received_by key q r p (stays d) t = absurd (true≢false (sym t ∙ d.tells.received_so))
+received_by key q r p (comes d) t = absurd (true≢false (sym t ∙ d.tells.received_so))
+received_by key q r p (changes d) t = absurd (true≢false (sym t ∙ d.tells.received_so))
+received_by key q r p (releases d) t = absurd (true≢false (sym t ∙ d.tells.received_so))
+received_by key q r p (redrives d) t = absurd (true≢false (sym t ∙ d.tells.received_so))
+received_by key q r p (ends d) t = absurd (true≢false (sym t ∙ d.tells.received_so))
 
 -- a row names a message of its own queue alone
 own_named : (q : Queue) (r : Row) (n : ℕ) (m : MessageId) → r.message ≡ Some (id_of q n) → r.message ≡ Some m → m.site ≡ q.site

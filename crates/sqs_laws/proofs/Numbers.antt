@@ -1,9 +1,10 @@
 -- Messages by their numbers, which go up: each is found by its own.
 use Rattle.std.specs.Prelude.{All, Bool, List, Some, [], cond, false, is_some, true, ℕ, ◌+◌, ◌∷◌, ◌≡◌}
-use Rattle.std.proofs.Common.{ap, arith, inl, inr, refl, subst, ◌∙◌}
+use Rattle.std.proofs.Common.{ap, arith, inl, inr, refl, subst, ◌∙◌, sym}
 use Rattle.std.proofs.lemmas.Bool.{eqb-true}
 use Rattle.std.proofs.lemmas.List.Elements.{All-cons, All-nil}
-use Rattle.sim_clock.specs.declared.key.Class.TheVariants.{Expiry}
+use Rattle.sim_clock.specs.declared.key.Class.{Class}
+use Rattle.sim_clock.specs.declared.key.Class.TheVariants.{Arrival, Expiry, PollEnd, Release, Sample, Step, Wake}
 use Rattle.sim_clock.specs.declared.key.Key.{Key}
 use Rattle.sqs_message.specs.declared.message.Message.{Message}
 use Rattle.sqs_model.specs.Dues.{dues}
@@ -48,21 +49,31 @@ in_numbered low [] m c i = absurd i
 in_numbered low (x ∷ ms) m c (inl is) = subst (λ y. numbered y.number (x ∷ ms) ≡ Some y) is (own_found x ms)
 in_numbered low (x ∷ ms) m c (inr i) = other_found (has_number m.number x) m.number x m ms c.1 refl (in_numbered (x.number + 1) ms m c.1 i)
 
--- the time of the message that a key expires is over
-abbrev pub IsOver : Key → Core → Type 0
-IsOver key c = (m : Message) → numbered key.number c.queue.records ≡ Some m → key.at ≡ m.enqueued + c.queue.settings.retention
+-- the time of the message that a key expires or releases is over
+pub record IsOver (class : Class) (key : Key) (c : Core) (m : Message) : Type 0 where
+  pub retention : class ≡ Expiry → key.at ≡ m.enqueued + c.queue.settings.retention
+  pub release : class ≡ Release → m.release ≡ Some key.at
 
-pub due_over : (key : Key) (s : Site) → IsStocked s.core.queue → In (dues s) key → key.class ≡ Expiry → IsOver key s.core
+abbrev pub AreOver : Class → Key → Core → Type 0
+AreOver class key c = (m : Message) → numbered key.number c.queue.records ≡ Some m → IsOver class key c m
+
+never_over : (class : Class) (key : Key) (c : Core) → (class ≡ Expiry → ⊥) → (class ≡ Release → ⊥) → AreOver class key c
+never_over class key c e r m f = record { retention = λ t. absurd (e t); release = λ t. absurd (r t) }
+
+pub due_over : (key : Key) (s : Site) → IsStocked s.core.queue → In (dues s) key → AreOver key.class key s.core
 due_over key s k =
-    of_site (λ y. y.class ≡ Expiry → IsOver y s.core) key s (λ o i e. cc)
+    of_site (λ y. AreOver y.class y s.core) key s (λ o i. never_over Arrival _ s.core (λ t. cc) (λ t. cc))
     (record {
-      expiry = λ m i e x f.
+      expiry = λ m i x f.
           let own : numbered m.number s.core.queue.records ≡ Some m = in_numbered 0 s.core.queue.records m k.ordered i in
           let is : m ≡ x = cc in
-          ap (λ (y : Message). y.enqueued + s.core.queue.settings.retention) is;
-      release = λ m at i r e. cc;
-      poll = λ p i e. cc;
-      wake = λ a at i w e. cc;
-      sample = λ z e. cc;
-      step = λ t i r e. cc;
+          record { retention = λ _. ap (λ (y : Message). y.enqueued + s.core.queue.settings.retention) is; release = λ t. cc };
+      release = λ m at i r x f.
+          let own : numbered m.number s.core.queue.records ≡ Some m = in_numbered 0 s.core.queue.records m k.ordered i in
+          let is : m ≡ x = cc in
+          record { retention = λ t. cc; release = λ _. ap (λ (y : Message). y.release) (sym is) ∙ r };
+      poll = λ p i. never_over PollEnd _ s.core (λ t. cc) (λ t. cc);
+      wake = λ a at i w. never_over Wake _ s.core (λ t. cc) (λ t. cc);
+      sample = λ z. never_over Sample _ s.core (λ t. cc) (λ t. cc);
+      step = λ t i r. never_over Step _ s.core (λ t. cc) (λ t. cc);
     })

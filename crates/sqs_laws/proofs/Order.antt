@@ -44,7 +44,7 @@ by_horizon s =
     record {
       Holds = λ rows q. Unit {0};
       Meets = λ before r. r.key.at ≤ s.horizon;
-      moves = λ rows key q r p by m g k h. (subst (λ (x : Key). x.at ≤ s.horizon) (sym m.at_key) by, tt);
+      moves = λ rows key q r p by m g k h. (subst (λ (x : Key). x.at ≤ s.horizon) (sym m.at_key) by.within, tt);
       apart = λ rows r q d own h. tt;
       opens = λ n settings e. tt;
     }

@@ -35,8 +35,10 @@ use Rattle.sqs_laws.proofs.Calls.{found_old}
 use Rattle.sqs_laws.proofs.End as end
 use Rattle.sqs_laws.proofs.Flights as fly
 use Rattle.sqs_laws.proofs.Letters as letter
-use Rattle.sqs_laws.proofs.Moves.{Asks, AsksChange, AsksDelete, changed_answer, Does, IsStocked, Move, changes, comes, deleted_answer, ends, receives, redrives, releases, stays}
+use Rattle.sqs_laws.proofs.Slots.{of_there}
+use Rattle.sqs_laws.proofs.Moves.{Asks, AsksChange, AsksDelete, changed_answer, Does, IsStocked, Move, changes, comes, deleted_answer, ends, receives, redrives, releases, stays, received_by}
 use Rattle.sqs_laws.proofs.Worlds.{RowLaw, both, every_row_by}
+use Rattle.sqs_laws.proofs.Flights.{flies_of, rests_of}
 
 -- a receipt that is read counts from 1
 read_counts : (text : List ℕ) (r x : Receipt) → (if fits r && bytes_eq (receipt_text r) text then Some r else None) ≡ Some x → 1 ≤ x.count
@@ -93,23 +95,18 @@ module _ (s : Scenario) (v : All IsQueueSettings s.queues) where
 
   module _ (rows : List Row) (key : Key) (q : Queue) (r : Row) (p : Queue) (d : Move key q r p) (k : IsStocked q) (h : told.Holds rows q) where
     came : comings r.queue rows ≡ q.arrivals
-    came = ap (λ n. comings n rows) d.at_site ∙ h.0.came
+    came = ap (λ n. comings n rows) d.at_site ∙ h.0.0
 
     -- a receive
     made_by : Does key q r p → (m : MessageId) → r.message ≡ Some m → words.received r ≡ true → r.receipt ≡ receipts.Made (record { site = r.queue; number = m.number; count = times m rows + 1 })
-    made_by (receives x) m e t =
-        let i : id_of q x.number ≡ m = cc in
-        let before : times (id_of q x.number) rows ≡ x.one.receives = h.1.0.received x.number x.one x.names.there in
+    made_by y m e t =
+        let x = received_by key q r p y t in
+        let i : id_of q x.number ≡ m = let named : Some (id_of q x.number) ≡ Some m = sym x.names.message ∙ e in cc in
+        let before : times (id_of q x.number) rows ≡ x.one.receives = (of_there s (letter.letter_law s v) rows q h.1.0 x.number x.one x.names.there).0 in
         x.receipt
         ∙ ap (λ n. receipts.Made (record { site = q.site; number = x.number; count = n + 1 })) (sym before)
         ∙ ap (λ n. receipts.Made (record { site = n; number = x.number; count = times (id_of q x.number) rows + 1 })) (sym d.at_site)
         ∙ ap (λ y. receipts.Made (record { site = r.queue; number = y.number; count = times y rows + 1 })) i
-    made_by (stays x) m e t = let none : words.received r ≡ false = x.tells.received_so in cc
-    made_by (comes x) m e t = let none : words.received r ≡ false = x.tells.received_so in cc
-    made_by (changes x) m e t = let none : words.received r ≡ false = x.tells.received_so in cc
-    made_by (releases x) m e t = let none : words.received r ≡ false = x.tells.received_so in cc
-    made_by (redrives x) m e t = let none : words.received r ≡ false = x.tells.received_so in cc
-    made_by (ends x) m e t = let none : words.received r ≡ false = x.tells.received_so in cc
 
     -- the kind of its queue
     fifo_is : fifo_at s r ≡ is_fifo q.settings.kind
@@ -140,7 +137,7 @@ module _ (s : Scenario) (v : All IsQueueSettings s.queues) where
       is_id = ap (λ n. record { site = n; number = m.number }) (sym here)
 
       left_is : has_left m rows ≡ is_none (numbered m.number q.records)
-      left_is = subst (λ x. has_left x rows ≡ is_none (numbered m.number q.records)) is_id (h.0.left m.number old)
+      left_is = subst (λ x. has_left x rows ≡ is_none (numbered m.number q.records)) is_id (end.left_of s rows q h.0.1 m.number old)
 
       given : may_be_given q by ≡ true
       given = rw here (let one : nat_lt 0 count ≡ true = grind (arith, nat_tests, first) in rw (eq-eqb q.site q.site refl, one) refl)
@@ -149,8 +146,8 @@ module _ (s : Scenario) (v : All IsQueueSettings s.queues) where
           ≡ (if nat_lt one.receives count then answers.Refused refusals.ReceiptHandleIsInvalid else (if count == one.receives && (not fifo || is_in_flight one) then answers.Deleted else (if fifo then answers.Refused refusals.ReceiptHandleIsInvalid else answers.Kept)))
       there one f fifo =
           answer_there fifo rows m count one.receives (is_in_flight one) (left_is ∙ ap is_none f)
-          (subst (λ x. times x rows ≡ one.receives) is_id (h.1.0.received m.number one f))
-          (subst (λ x. flying x rows ≡ is_in_flight one) is_id (h.1.1.flies m.number one f))
+          (subst (λ x. times x rows ≡ one.receives) is_id ((of_there s (letter.letter_law s v) rows q h.1.0 m.number one f).0))
+          (subst (λ x. flying x rows ≡ is_in_flight one) is_id (flies_of s rows q h.1.1 m.number one f))
 
       gone_told : numbered m.number q.records ≡ None → (fifo : Bool) → deleted_answer (delete_gone q by).0 ≡ delete_answer fifo rows m count
       gone_told f fifo =
@@ -197,8 +194,8 @@ module _ (s : Scenario) (v : All IsQueueSettings s.queues) where
           → change_answer rows m count ≡ (if nat_lt one.receives count then answers.Refused refusals.ReceiptHandleIsInvalid else (if is_in_flight one && count == one.receives then answers.Ok else answers.Refused refusals.MessageNotInflight))
       there_changed one f =
           let left : has_left m rows ≡ false = left_is m count here old first ∙ ap is_none f in
-          let got : times m rows ≡ one.receives = subst (λ x. times x rows ≡ one.receives) (is_id m count here old first) (h.1.0.received m.number one f) in
-          let flies : flying m rows ≡ is_in_flight one = subst (λ x. flying x rows ≡ is_in_flight one) (is_id m count here old first) (h.1.1.flies m.number one f) in
+          let got : times m rows ≡ one.receives = subst (λ x. times x rows ≡ one.receives) (is_id m count here old first) ((of_there s (letter.letter_law s v) rows q h.1.0 m.number one f).0) in
+          let flies : flying m rows ≡ is_in_flight one = subst (λ x. flying x rows ≡ is_in_flight one) (is_id m count here old first) (flies_of s rows q h.1.1 m.number one f) in
           rw (left, got, flies) refl
 
       cases_of : (a b c d e : Bool) → (c ≡ true → e ≡ false) → (a ≡ false → c ≡ false → e ≡ true)
@@ -228,7 +225,7 @@ module _ (s : Scenario) (v : All IsQueueSettings s.queues) where
       gone_answers : numbered m.number q.records ≡ None → Answers (change_found q key.at with_count timeout None)
       gone_answers f =
           let left : has_left m rows ≡ true = left_is m count here old first ∙ ap is_none f in
-          let rests : flying m rows ≡ false = subst (λ x. flying x rows ≡ false) (is_id m count here old first) (h.1.1.rests m.number f) in
+          let rests : flying m rows ≡ false = subst (λ x. flying x rows ≡ false) (is_id m count here old first) (rests_of s rows q h.1.1 m.number f) in
           let come : nat_lt m.number q.arrivals ≡ true = grind (arith, nat_tests, old) in
           let one : changed_answer (change_found q key.at with_count timeout None).0 ≡ answers.Refused refusals.MessageNotInflight = rw come refl in
           let two : change_answer rows m count ≡ answers.Refused refusals.MessageNotInflight = rw (left, rests) refl in
@@ -339,29 +336,12 @@ module _ (s : Scenario) (v : All IsQueueSettings s.queues) where
     others_by true e t = let a : Asked = asked_delete e in other_read (read_receipt a.text) a refl
     others_by false e t = let a : Asked = asked_change (ap (λ b. b || is_change r.kind) (sym e) ∙ t) in other_read (read_receipt a.text) a refl
 
-  -- what the law says of a row
-  record IsAsTold (before : List Row) (r : Row) : Type 0 where
-    pub made : (m : MessageId) → r.message ≡ Some m → words.received r ≡ true → r.receipt ≡ receipts.Made (record { site = r.queue; number = m.number; count = times m before + 1 })
-    pub deletes : is_delete r.kind ≡ true → (m : MessageId) (count : ℕ) → Known before r m count → r.answer ≡ delete_answer (fifo_at s r) before m count
-    pub changes : is_change r.kind ≡ true → (m : MessageId) (count : ℕ) → Known before r m count → (r.answer ≡ change_answer before m count) ⊎ (r.answer ≡ answers.Refused refusals.BadTimeout)
-    pub others : (is_delete r.kind || is_change r.kind) ≡ true → ((m : MessageId) × (count : ℕ) × Known before r m count)
-        ⊎ ((r.answer ≡ answers.Refused refusals.ReceiptHandleIsInvalid) ⊎ ((is_change r.kind ≡ true) × (r.answer ≡ answers.Refused refusals.BadTimeout)))
-
   -- the law
   pub receipts_are_known : (x : Run) → IsRunOf s x → Receipts s x.rows
   receipts_are_known x is =
-      let each : EachRow x.rows IsAsTold =
-      every_row_by s told IsAsTold
-      (λ rows key q r p d g k h j.
       record {
-        made = made_by rows key q r p d k h d.does;
-        deletes = deletes_by rows key q r p d k h;
-        changes = changes_by rows key q r p d k h;
-        others = λ t. others_by rows key q r p d k h (is_delete r.kind) refl t;
-      }) x is in
-      record {
-        made = λ before r after e m i t. (each before r after e).made m i t;
-        deletes = λ before r after e t m count y. (each before r after e).deletes t m count y;
-        changes = λ before r after e t m count y. (each before r after e).changes t m count y;
-        others = λ before r after e t. (each before r after e).others t;
+        made = every_row_by s told _ (λ rows key q r p now d g k h j. made_by rows key q r p d k h d.does) x is;
+        deletes = every_row_by s told _ (λ rows key q r p now d g k h j. deletes_by rows key q r p d k h) x is;
+        changes = every_row_by s told _ (λ rows key q r p now d g k h j. changes_by rows key q r p d k h) x is;
+        others = every_row_by s told _ (λ rows key q r p now d g k h j t. others_by rows key q r p d k h (is_delete r.kind) refl t) x is;
       }

@@ -24,7 +24,7 @@ use Rattle.sqs_laws.proofs.Said.{names_apart, names_other, names_same}
 use Rattle.sqs_laws.proofs.Worlds.{NamesOwn, RowLaw, every_row_by}
 
 -- the row by which a message came, with one more row
-came_as : (m : MessageId) (rows : List Row) (r : Row) (b : Bool) → (words.comes r && names m r) ≡ b → came_by m (rows ++ r ∷ []) ≡ (if b then Some r else came_by m rows)
+pub came_as : (m : MessageId) (rows : List Row) (r : Row) (b : Bool) → (words.comes r && names m r) ≡ b → came_by m (rows ++ r ∷ []) ≡ (if b then Some r else came_by m rows)
 came_as m rows r b e =
     fold-append (λ t x. if words.comes x && names m x then Some x else t) None rows (r ∷ [])
     ∙ ap (λ c. if c then Some r else came_by m rows) e
@@ -96,35 +96,29 @@ entries s =
     }
 
 -- what it says of a row
-record IsAsTold (s : Scenario) (before : List Row) (r : Row) : Type 0 where
-  pub fifo : words.is_repeat r.answer ≡ true → fifo_at s r ≡ true
-  pub recent : words.is_repeat r.answer ≡ true → RepeatsRecent s before r
-
-told : (s : Scenario) → IsSoundScenario s → (rows : List Row) (key : Key) (q : Queue) (r : Row) (p : Queue) → Move key q r p → IsBehind s rows q r p → Says s rows q → IsAsTold s rows r
-told s sound rows key q r p d g h =
-    record {
-      fifo = λ t.
-          let own : slice_get s.queues r.queue ≡ Some q.settings = ap (λ n. slice_get s.queues n) d.at_site ∙ h.settings in
-          ap (λ x. elim x as (λ _. Bool) [ None ↦ false | Some y ↦ is_fifo y.kind ]) own ∙ (g.repeats t).fifo;
-      recent = λ t.
-          let x : RepeatsEntry s q r = g.repeats t in
-          let e : Entered s rows q x.entry = h.entered x.entry x.there in
-          record {
-            message = id_of q x.entry.number;
-            by = e.by;
-            names = x.names;
-            came = e.came;
-            recent = omega (arith, x.lives, e.ends);
-            same = λ y f u a b v w.
-                let own : slice_get s.queues r.queue ≡ Some q.settings = ap (λ n. slice_get s.queues n) d.at_site ∙ h.settings in
-                let is : q.settings ≡ y = cc in
-                let both = and_parts (is_send r.kind) (is_send e.by.kind) u in
-                ap (λ (z : QueueSettings). key_given z.kind a) (sym is) ∙ x.same both.0 sound.actors a v ∙ sym (e.same both.1 sound.actors b w) ∙ ap (λ (z : QueueSettings). key_given z.kind b) is;
-          };
-    }
+told : (s : Scenario) → IsSoundScenario s → (rows : List Row) (key : Key) (q : Queue) (r : Row) (p : Queue) → Move key q r p → IsBehind s rows q r p → Says s rows q → words.is_repeat r.answer ≡ true → (fifo_at s r ≡ true) × RepeatsRecent s rows r
+told s sound rows key q r p d g h t =
+    let own : slice_get s.queues r.queue ≡ Some q.settings = ap (λ n. slice_get s.queues n) d.at_site ∙ h.settings in
+    let x : RepeatsEntry s q r = g.repeats t in
+    let e : Entered s rows q x.entry = h.entered x.entry x.there in (
+      ap (λ x. elim x as (λ _. Bool) [ None ↦ false | Some y ↦ is_fifo y.kind ]) own ∙ x.fifo,
+      record {
+        message = id_of q x.entry.number;
+        by = e.by;
+        names = x.names;
+        came = e.came;
+        recent = omega (arith, x.lives, e.ends);
+        same = λ y f u a b v w.
+            let is : q.settings ≡ y = cc in
+            let both = and_parts (is_send r.kind) (is_send e.by.kind) u in
+            ap (λ (z : QueueSettings). key_given z.kind a) (sym is) ∙ x.same both.0 sound.actors a v ∙ sym (e.same both.1 sound.actors b w) ∙ ap (λ (z : QueueSettings). key_given z.kind b) is;
+      },
+    )
 
 -- the law
 pub repeats_are_recent : (s : Scenario) → IsSoundScenario s → (x : Run) → IsRunOf s x → Repeats s x.rows
 repeats_are_recent s sound x is =
-    let each : EachRow x.rows (IsAsTold s) = every_row_by s (entries s) (IsAsTold s) (λ rows key q r p d g k h j. told s sound rows key q r p d g h) x is in
-    record { fifo = λ before r after e t. (each before r after e).fifo t; recent = λ before r after e t. (each before r after e).recent t }
+    record {
+      fifo = every_row_by s (entries s) _ (λ rows key q r p now d g k h j t. (told s sound rows key q r p d g h t).0) x is;
+      recent = every_row_by s (entries s) _ (λ rows key q r p now d g k h j t. (told s sound rows key q r p d g h t).1) x is;
+    }

@@ -1,18 +1,16 @@
 -- The rows of each other call, and of what is due, are a chain of single moves.
 use Rattle.std.specs.Str.{bytes_eq}
-use Rattle.std.specs.Prelude.{All, Bool, slice_get, Err, List, None, Ok, Option, Result, Some, [], false, get_or, if◌then◌else◌, length, nat_lt, take, true, ℕ, ◌&&◌, ◌*◌, ◌+◌, ◌++◌, ◌<◌, ◌==◌, ◌∷◌, ◌≡◌, ◌≢◌, ◌||◌, ◌-◌, ◌≤◌}
+use Rattle.std.specs.Prelude.{All, Bool, slice_get, Err, List, None, Ok, Option, Result, Some, [], false, get_or, if◌then◌else◌, length, nat_lt, take, true, ℕ, ◌&&◌, ◌*◌, ◌+◌, ◌++◌, ◌<◌, ◌==◌, ◌∷◌, ◌≡◌, ◌≢◌, ◌||◌, ◌-◌, ◌≤◌, ◌⊎◌}
 use Rattle.std.proofs.Common.{ap, arith, inl, inr, refl, subst, sym, true≢false, ◌∙◌}
-use Rattle.std.proofs.lemmas.Bool.{and_parts, leb-true}
+use Rattle.std.proofs.lemmas.Bool.{and_parts, eqb-true, leb-true}
 use Rattle.std.proofs.lemmas.Bool.Decides.{nat_tests}
-use Rattle.std.proofs.lemmas.List.Elements.{All-filter, All-head, All-push, All-tail, All-take}
+use Rattle.std.proofs.lemmas.List.Elements.{All-cons, All-filter, All-head, All-nil, All-push, All-tail, All-take}
 use Rattle.sim_clock.specs.declared.key.Key.{Key}
 use Rattle.sim_clock.specs.declared.refusal.Refusal.{Refusal}
 use Rattle.sim_clock.specs.declared.refusal.Refusal.TheVariants as refusals
 use Rattle.sqs_message.specs.declared.ids.MessageId.{MessageId}
 use Rattle.sqs_message.specs.declared.ids.Receipt.{Receipt}
 use Rattle.sqs_message.specs.declared.message.Message.{Message}
-use Rattle.sqs_message.specs.declared.message.Place.{Place}
-use Rattle.sqs_message.specs.declared.message.Place.TheVariants as places
 use Rattle.sqs_message.specs.declared.row.Detail.TheVariants as details
 use Rattle.sqs_message.specs.declared.row.Row.{Row}
 use Rattle.sqs_message.specs.declared.row.RowAnswer.{RowAnswer}
@@ -32,7 +30,7 @@ use Rattle.sqs_redrive.specs.declared.transfers.Load.{Load}
 use Rattle.sqs_redrive.specs.declared.transfers.Load.TheVariants.{Forward, Move as Moves, Redrive}
 use Rattle.sqs_redrive.specs.declared.transfers.Outbound.{Outbound}
 use Rattle.sqs_model.specs.Accounts.{is_deleted, is_expired, origin_in}
-use Rattle.sqs_model.specs.Acts.{change_answered, change_made, change_row, came_back, delete_done, delete_made, forward_made, forwards_made, send_made, sends, serve_made}
+use Rattle.sqs_model.specs.Acts.{change_answered, change_made, change_row, came_back, delete_done, delete_made, forwards_made, send_made, sends, serve_made}
 use Rattle.sqs_model.specs.Actor.{Actor}
 use Rattle.sqs_model.specs.Calls.{change, deduplication_id, delay_of, delete, in_flight_until, is_bad_delay, living, living_entries, new_message, returned, scope_of, send_unless, send_with, with_entry, with_message}
 use Rattle.sqs_model.specs.Queue.{Entry, Queue, has_number, id_of, is_in_flight, is_visible, numbered, same_text, taken_out, with_change, with_records}
@@ -44,7 +42,7 @@ use Rattle.sqs_model.specs.declared.agents.ActorSettings.{ActorSettings}
 use Rattle.sqs_model.specs.Progress.{IsSoundRole}
 use Rattle.sqs_model.specs.Scenario.{Scenario}
 use Rattle.sqs_model.specs.Texts.{same_text_decides}
-use Rattle.sqs_model.specs.Site.{Core, Effect, and_then, number_of, says, with_queue}
+use Rattle.sqs_model.specs.Site.{Core, Effect, and_then, is_task, number_of, says, with_queue}
 use Rattle.sqs_model.specs.Arrive.{arrived, brought, enqueued_at, expired_found, forwarded, forwarded_group, is_too_old, sent_of, settled_when}
 use Rattle.sqs_model.specs.Step.{Moved, arrival_done, end_row, load_age, load_origin, handle_step, moves, one_sent, expiry_done, handle_expiry, release_done}
 use Rattle.sqs_model.specs.Available.{all_available, all_hosts}
@@ -58,17 +56,18 @@ use Rattle.sqs_model.proofs.Numbered.{Apart, other_without}
 use Rattle.sqs_model.proofs.Answered.{change_by, delete_by}
 use Rattle.sqs_model.proofs.Branches.{either}
 use Rattle.sqs_model.proofs.CallWalk.{IsNameless, TellsOfNone}
-use Rattle.sqs_model.proofs.Counts.{changed_twice, find_all, find_picked, without_changed}
+use Rattle.sqs_model.proofs.Counts.{all_changed, changed_twice, find_all, find_picked, without_changed}
 use Rattle.sqs_model.proofs.Members.{In, all_in, in_append, of_all}
 use Rattle.sqs_model.proofs.SiteAccounts.{IsFound}
-use Rattle.sqs_laws.specs.Sends.{Given, GivesAs, IsSender, key_given, scope_given}
-use Rattle.sqs_laws.specs.Laws.{is_fifo}
+use Rattle.sqs_laws.specs.Sends.{Given, GivesAs, IsSender, delay_given, key_given, milliseconds_or, scope_given}
+use Rattle.sqs_laws.specs.Laws.{is_actor_of, is_fifo}
 use Rattle.sqs_laws.specs.Words as words
-use Rattle.sqs_laws.proofs.Calls.{Told, back_told, found_old, one_back, own_changed, pushed_found, pushed_out, tells}
+use Rattle.sqs_laws.proofs.Calls.{Told, back_fits, back_told, found_old, one_back, own_changed, pushed_found, pushed_out, tells}
 use Rattle.sqs_laws.proofs.Gives.{Gives}
 use Rattle.sqs_laws.proofs.Giving.{visible_available}
 use Rattle.sqs_laws.proofs.Naming.{found_in}
-use Rattle.sqs_laws.proofs.Moves.{HasKey, Asks, AsksChange, AsksDelete, Chain, IsEntered, IsNoReceipt, IsBehind, RepeatsEntry, changed_answer, deleted_answer, chain_keeps, Does, IsStocked, Keeps, Move, Stays, Tells, changes, chain_append, comes, ends, of_none, one_move, stays, tells_none}
+use Rattle.sqs_model.proofs.Sending.{IsForward}
+use Rattle.sqs_laws.proofs.Moves.{FitsSender, HasKey, Asks, AsksChange, AsksDelete, Chain, IsEntered, IsGiven, IsNoReceipt, IsBehind, RepeatsEntry, changed_answer, deleted_answer, chain_keeps, Does, IsStocked, Keeps, Move, Stays, Tells, Waits, changes, chain_append, comes, ends, of_none, one_move, stays, actors_of, tells_none}
 
 -- what a row of none tells
 abbrev SaysNothing : RowKind → RowAnswer → Type 0
@@ -119,10 +118,11 @@ nameless_none u past q r i =
     let n : SaysNothing r.kind r.answer = says_nothing r.kind r.answer i.kind in tells_none u past q r q false false false (tells r false false false false false n.0 n.1 n.2 n.3 n.4) n.5
 
 module _ (u : Scenario) (past : List Row) (key : Key) where
-  -- an effect whose rows are a chain from a site's queue, and which leaves its actors
+  -- an effect whose rows are a chain from a site's queue, and which leaves its actors and polls
   pub record IsChain (c : Core) (e : Effect) : Type 0 where
     pub chain : Chain u past key c.queue e.rows e.core.queue
-    pub actors : e.core.actors ≡ c.actors
+    pub actors : actors_of e.core ≡ actors_of c
+    pub sent : All (FitsSender u) e.sent
 
   -- a row that names a message which came before, and changes nothing
   named_stays : (q : Queue) (r : Row) (n : ℕ) → r.message ≡ Some (id_of q n) → Tells r false false false false false → n < q.arrivals → (words.may_follow r ≡ false → IsFound (numbered n q.records)) → (words.is_gone r.answer ≡ true → numbered n q.records ≡ None) → Stays key q r q
@@ -135,8 +135,8 @@ module _ (u : Scenario) (past : List Row) (key : Key) where
         gone = λ h i e. let s : id_of q n ≡ i = cc in subst (λ (x : MessageId). numbered x.number q.records ≡ None) s (g h);
       }
 
-  one_row : (c d : Core) (r : Row) → r.key ≡ key → r.queue ≡ c.queue.site → d.actors ≡ c.actors → Asks key c.queue r r.kind → Does key c.queue r d.queue → IsBehind u past c.queue r d.queue → IsChain c (says d r)
-  one_row c d r k s a y h g = record { chain = one_move u past key c.queue r d.queue (record { at_key = k; at_site = s; asked = y; does = h }) g; actors = a }
+  one_row : (c d : Core) (r : Row) → r.key ≡ key → r.queue ≡ c.queue.site → actors_of d ≡ actors_of c → Asks key c.queue r r.kind → Does key c.queue r d.queue → IsBehind u past c.queue r d.queue → IsChain c (says d r)
+  one_row c d r k s a y h g = record { chain = one_move u past key c.queue r d.queue (record { at_key = k; at_site = s; asked = y; does = h }) g; actors = a; sent = All-nil (FitsSender u) }
 
   -- services
   forwards_rows : (behind : List Row) (a : Actor) (c : Core) (id : MessageId) (os : List Outbound) → id.site ≡ c.queue.site → id.number < c.queue.arrivals → Chain u behind key c.queue (forwards_made key a id os c).rows (forwards_made key a id os c).core.queue
@@ -153,52 +153,20 @@ module _ (u : Scenario) (past : List Row) (key : Key) where
     forwards_rows (behind ++ _ ∷ []) a c id os e l,
   )
 
-  forwards_actors : (a : Actor) (c : Core) (id : MessageId) (os : List Outbound) → (forwards_made key a id os c).core.actors ≡ c.actors
+  forwards_actors : (a : Actor) (c : Core) (id : MessageId) (os : List Outbound) → actors_of (forwards_made key a id os c).core ≡ actors_of c
   forwards_actors a c id [] = refl
   forwards_actors a c id (o ∷ os) = forwards_actors a c id os
 
-  pub serve_chain : (a : Actor) (c : Core) (id : MessageId) (r : Receipt) (failed : Bool) (os : List Outbound) → id.site ≡ c.queue.site → id.number < c.queue.arrivals → IsChain c (serve_made key a c id r failed os).effect
-  serve_chain a c id r true os e l =
+  forwards_sent : (a : Actor) (c : Core) (id : MessageId) (os : List Outbound) → (forwards_made key a id os c).sent ≡ os
+  forwards_sent a c id [] = refl
+  forwards_sent a c id (o ∷ os) = ap (λ xs. o ∷ xs) (forwards_sent a c id os)
+
+  pub serve_chain : (a : Actor) (c : Core) (id : MessageId) (r : Receipt) (failed : Bool) (os : List Outbound) → id.site ≡ c.queue.site → id.number < c.queue.arrivals → All (FitsSender u) os → IsChain c (serve_made key a c id r failed os).effect
+  serve_chain a c id r true os e l f =
       one_row c c _ refl refl refl tt (stays (named_stays c.queue _ id.number (ap (λ s. Some (record { site = s; number = id.number })) e) (tells _ false false false false false refl refl refl refl refl) l (λ h. cc) (λ h. cc))) (of_none u past c.queue _ _ refl refl refl)
-  serve_chain a c id r false os e l = record { chain = forwards_rows past a c id os e l; actors = forwards_actors a c id os }
+  serve_chain a c id r false os e l f = record { chain = forwards_rows past a c id os e l; actors = forwards_actors a c id os; sent = subst (All (FitsSender u)) (sym (forwards_sent a c id os)) f }
 
   -- sends
-  abbrev IsSent : Actor → Core → List ℕ → Result Sent Refusal × Queue → Type 0
-  IsSent a c body x = IsChain c (send_made key a c body x).effect
-
-  -- a message that has the group which an actor gives, if its queue is a FIFO one
-  abbrev HasGroup : Actor → Core → Message → Type 0
-  HasGroup a c m = is_fifo c.queue.settings.kind ≡ true → All (λ x. IsSoundRole x.role) u.actors → (x : Given) → GivesAs u a.number key.at x → m.group ≡ x.group
-
-  -- what an actor gives has this scope and this deduplication id
-  abbrev GivesKey : Actor → Core → Option (List ℕ) → List ℕ → Type 0
-  GivesKey a c scope id = All (λ x. IsSoundRole x.role) u.actors → (x : Given) → GivesAs u a.number key.at x → key_given c.queue.settings.kind x ≡ (scope, Some id)
-
-  -- what an actor gives has this body
-  abbrev GivesBody : Actor → List ℕ → Type 0
-  GivesBody a body = (b : ActorSettings) → slice_get u.actors (a.number - length u.queues) ≡ Some b → IsSender b.role → (x : Given) × GivesAs u a.number key.at x × (x.body ≡ body)
-
-  -- an entry of the message that comes has them
-  abbrev EntersKey : Actor → Core → List Entry → Type 0
-  EntersKey a c entries = (e : Entry) → In entries e → e.number ≡ c.queue.arrivals → GivesKey a c e.scope e.id
-
-  refused_sent : (a : Actor) (c : Core) (body : List ℕ) (e : Refusal) → IsSent a c body (Err e, c.queue)
-  refused_sent a c body e = one_row c c _ refl refl refl tt (stays (nameless_stays key c.queue _ refl (tells _ false false false false false refl refl refl refl refl))) (of_none u past c.queue _ _ refl refl refl)
-
-  new_sent : (a : Actor) (c : Core) (body : List ℕ) (m : Message) (entries : List Entry) → IsStocked c.queue → HasGroup a c m → EntersKey a c entries → GivesBody a body → m.number ≡ c.queue.arrivals → m.receives ≡ 0 → is_in_flight m ≡ false → record { site = c.queue.site; number = c.queue.arrivals } ≡ m.origin → (m.enqueued ≡ key.at) × (m.source ≡ None) → All (IsEntered key c.queue) entries → IsSent a c body (Ok (New (id_of c.queue c.queue.arrivals)), with_message (record c.queue { entries = entries }) m)
-  new_sent a c body m entries k x w v n f r g d o =
-      one_row c (with_queue c (with_message (record c.queue { entries = entries }) m)) _ refl refl refl tt
-      (comes (record { one = m; entries = entries; tells = tells _ true false false false false refl refl refl refl refl; message = refl; number = n; fresh = f; rests = r; told = ap (λ x. Some x) g; sent = λ _. d; entered = o; after = refl }))
-      (record {
-        given = λ e y one i s g h.
-            let is : m ≡ one = let found : Some m ≡ Some one = sym (pushed_found c.queue.arrivals c.queue.records m n k.given_out) ∙ i in cc in
-            ap (λ (z : Message). z.group) (sym is) ∙ x y s g h;
-        next = λ e. cc;
-        repeats = λ e. cc;
-        enters = λ e. w;
-        sends = λ e b f i. let y = v b f i in (y.0, y.1, ap (λ z. details.Digest (md5 z)) (sym y.2));
-      })
-
   -- a row that repeats a message by an entry that lives
   repeats_by : (q : Queue) (r : Row) (scope : Option (List ℕ)) (id : List ℕ) (e : Entry) → is_fifo q.settings.kind ≡ true → living q key.at scope id ≡ Some e → r.key ≡ key → r.message ≡ Some (id_of q e.number) → (words.is_send r.kind ≡ true → (e.scope ≡ scope) × (e.id ≡ id) → HasKey u q r e) → RepeatsEntry u q r
   repeats_by q r scope id e y f k m w =
@@ -214,14 +182,9 @@ module _ (u : Scenario) (past : List Row) (key : Key) where
   named_by : (c : Core) (scope : Option (List ℕ)) (id : List ℕ) (e : Entry) → IsStocked c.queue → living c.queue key.at scope id ≡ Some e → e.number < c.queue.arrivals
   named_by c scope id e s f = find_all (λ (x : Entry). nat_lt key.at x.end && same_text x.scope scope && bytes_eq x.id id) (λ x. x.number < c.queue.arrivals) c.queue.entries e s.entries f
 
-  repeat_sent : (a : Actor) (c : Core) (body : List ℕ) (scope : Option (List ℕ)) (id : List ℕ) (e : Entry) → GivesKey a c scope id → is_fifo c.queue.settings.kind ≡ true → IsStocked c.queue → living c.queue key.at scope id ≡ Some e → IsSent a c body (Ok (Repeat (id_of c.queue e.number)), c.queue)
-  repeat_sent a c body scope id e w y s f =
-      one_row c c _ refl refl refl tt (stays (named_stays c.queue _ e.number refl (tells _ false false false false false refl refl refl refl refl) (named_by c scope id e s f) (λ h. cc) (λ h. cc)))
-      (record { given = λ t. cc; next = λ t. cc; sends = λ t. cc; enters = λ t. cc; repeats = λ t. repeats_by c.queue _ scope id e y f refl refl (λ _ i s x g. w s x g ∙ ap (λ z. (z, Some id)) (sym i.0) ∙ ap (λ z. (e.scope, Some z)) (sym i.1)) })
-
-  -- a message that is not in flight as it comes
-  rests_at : (q : Queue) (body : List ℕ) (group : Option (List ℕ)) (delay : ℕ) → is_in_flight (new_message q key.at body group delay) ≡ false
-  rests_at q body group delay = either (λ (p : Place). elim p as (λ _. Bool) [ places.Delayed ↦ false | places.Visible ↦ false | places.InFlight ↦ true ] ≡ false) (delay == 0) places.Visible places.Delayed refl refl
+  -- a message that waits as it comes
+  waits_at : (q : Queue) (body : List ℕ) (group : Option (List ℕ)) (delay : ℕ) → Waits key.at delay (new_message q key.at body group delay)
+  waits_at q body group delay = record { place = refl; release = refl }
 
   old_entries : (q : Queue) → All (IsEntered key q) q.entries
   old_entries q = all_in (IsEntered key q) q.entries (λ e i. inl i)
@@ -231,40 +194,85 @@ module _ (u : Scenario) (past : List Row) (key : Key) where
       All-push (IsEntered key q) (living_entries key.at q.entries) _
       (All-filter (λ e. nat_lt key.at e.end) (IsEntered key q) q.entries (old_entries q)) (inr (refl, refl))
 
-  -- the entries with the new one
-  enters_more : (a : Actor) (c : Core) (scope : Option (List ℕ)) (id : List ℕ) → IsStocked c.queue → GivesKey a c scope id → EntersKey a c (with_entry c.queue key.at scope id).entries
-  enters_more a c scope id k w e i n =
-      elim (in_append (living_entries key.at c.queue.entries) _ e i) as (λ _. GivesKey a c e.scope e.id) [
-        | inl j ↦
-            let old : e.number < c.queue.arrivals = of_all (λ (x : Entry). x.number < c.queue.arrivals) (living_entries key.at c.queue.entries) e (All-filter (λ x. nat_lt key.at x.end) (λ (x : Entry). x.number < c.queue.arrivals) c.queue.entries k.entries) j in
-            absurd (omega (arith, old, n))
-        | inr j ↦ elim j as (λ _. GivesKey a c e.scope e.id) [ inl is ↦ subst (λ (y : Entry). GivesKey a c y.scope y.id) is w | inr none ↦ absurd none ]
-      ]
-
-  unless_sent : (a : Actor) (c : Core) (body given group : List ℕ) (scope : Option (List ℕ)) (id : List ℕ) (o : Option Entry) → GivesBody a given → GivesKey a c scope id → is_fifo c.queue.settings.kind ≡ true → HasGroup a c (new_message c.queue key.at body (Some group) c.queue.settings.delay) → living c.queue key.at scope id ≡ o → IsStocked c.queue → IsSent a c given (send_unless c.queue key.at body group scope id o)
-  unless_sent a c body given group scope id None v w y x f s =
-      new_sent a c given (new_message c.queue key.at body (Some group) c.queue.settings.delay) (with_entry c.queue key.at scope id).entries s x (enters_more a c scope id s w) v refl refl (rests_at c.queue body (Some group) c.queue.settings.delay) refl (refl, refl) (more_entries c.queue scope id)
-  unless_sent a c body given group scope id (Some e) v w y x f s = repeat_sent a c given scope id e w y s f
-
   scope_alike : (scope : Scope) (g : List ℕ) → scope_given scope (Some g) ≡ scope_of scope g
   scope_alike scopes.Queue g = refl
   scope_alike scopes.Group g = refl
 
-  with_sent : (a : Actor) (c : Core) (scope : Scope) (body : List ℕ) (group id : Option (List ℕ)) → GivesBody a body → ((g i : List ℕ) → group ≡ Some g → id ≡ Some i → GivesKey a c (scope_of scope g) i) → is_fifo c.queue.settings.kind ≡ true → HasGroup a c (new_message c.queue key.at body group c.queue.settings.delay) → IsStocked c.queue → IsSent a c body (send_with c.queue scope key.at body group id)
-  with_sent a c scope body None id v w y x s = refused_sent a c body refusals.MissingGroup
-  with_sent a c scope body (Some g) None v w y x s = refused_sent a c body refusals.MissingDeduplication
-  with_sent a c scope body (Some g) (Some i) v w y x s = unless_sent a c body body g (scope_of scope g) i (living c.queue key.at (scope_of scope g) i) v (w g i refl refl) y x refl s
+  -- the delay of what is given
+  abbrev delay_at : Kind → ℕ → Option ℕ → ℕ
+  delay_at k other own = elim k as (λ _. ℕ) [ Standard hosts sampled ↦ milliseconds_or other own | Fifo content scope ↦ other ]
 
-  pub sends_chain : (k : Kind) (a : Actor) (c : Core) (body : List ℕ) (delay : Option ℕ) (group id : Option (List ℕ)) → c.queue.settings.kind ≡ k → Gives u key.at a.number (record { body = body; group = group; id = id }) → IsStocked c.queue → IsSent a c body (sends k c.queue key.at body delay group id)
-  sends_chain (Standard hosts sampled) a c body delay group id y x s =
-      either (IsSent a c body) (is_bad_delay 900 delay) _ _ (refused_sent a c body refusals.BadDelay)
-      (new_sent a c body (new_message c.queue key.at body None (delay_of c.queue delay)) c.queue.entries s (λ z. absurd (true≢false (sym z ∙ ap is_fifo y))) (λ e i n. let old : e.number < c.queue.arrivals = of_all (λ (z : Entry). z.number < c.queue.arrivals) c.queue.entries e s.entries i in absurd (omega (arith, old, n))) (λ b f i. (record { body = body; group = group; id = id }, x.0 b f i, refl)) refl refl (rests_at c.queue body None (delay_of c.queue delay)) refl (refl, refl) (old_entries c.queue))
-  sends_chain (Fifo content scope) a c body delay group id y x s =
-      either (IsSent a c body) (is_bad_delay 0 delay) _ _ (refused_sent a c body refusals.BadDelay) (with_sent a c scope body group (deduplication_id content body id) (λ b f i. (record { body = body; group = group; id = id }, x.0 b f i, refl))
-      (λ g i e f v z t.
-      let given : Given = record { body = body; group = group; id = id } in
-      ap (key_given c.queue.settings.kind) (sym (x.1 v z t)) ∙ ap (λ j. key_given j given) y ∙ ap (λ j. (scope_given scope j, deduplication_id content body id)) e ∙ ap (λ j. (scope_given scope (Some g), j)) f ∙ ap (λ j. (j, Some i)) (scope_alike scope g))
-      (ap is_fifo y) (λ _ v z t. ap (λ (j : Given). j.group) (x.1 v z t)) s)
+  delay_alike : (q : Queue) (own : Option ℕ) → milliseconds_or q.settings.delay own ≡ delay_of q own
+  delay_alike q None = refl
+  delay_alike q (Some seconds) = refl
+
+  module _ (a : Actor) (c : Core) (given : Given) (x : Gives u key.at a.number given) (s : IsStocked c.queue) where
+    abbrev IsSent : Result Sent Refusal × Queue → Type 0
+    IsSent y = IsChain c (send_made key a c given.body y).effect
+
+    -- what is given has this scope and this deduplication id
+    abbrev GivesKey : Option (List ℕ) → List ℕ → Type 0
+    GivesKey scope id = key_given c.queue.settings.kind given ≡ (scope, Some id)
+
+    given_key : (scope : Option (List ℕ)) (id : List ℕ) → GivesKey scope id → All (λ z. IsSoundRole z.role) u.actors → (y : Given) → GivesAs u a.number key.at y → key_given c.queue.settings.kind y ≡ (scope, Some id)
+    given_key scope id w z y g = ap (key_given c.queue.settings.kind) (sym (x.1 z y g)) ∙ w
+
+    refused_sent : (e : Refusal) → IsSent (Err e, c.queue)
+    refused_sent e = one_row c c _ refl refl refl tt (stays (nameless_stays key c.queue _ refl (tells _ false false false false false refl refl refl refl refl))) (of_none u past c.queue _ _ refl refl refl)
+
+    new_sent :
+        (group : Option (List ℕ)) (delay : ℕ) (entries : List Entry) → delay_given c.queue.settings given ≡ delay → (is_fifo c.queue.settings.kind ≡ true → group ≡ given.group) → ((e : Entry) → In entries e → e.number ≡ c.queue.arrivals → GivesKey e.scope e.id)
+        → All (IsEntered key c.queue) entries → IsSent (Ok (New (id_of c.queue c.queue.arrivals)), with_message (record c.queue { entries = entries }) (new_message c.queue key.at given.body group delay))
+    new_sent group delay entries w f k o =
+        let m : Message = new_message c.queue key.at given.body group delay in
+        let waits : Waits key.at delay m = record { place = refl; release = refl } in
+        one_row c (with_queue c (with_message (record c.queue { entries = entries }) m)) _ refl refl refl tt
+        (comes (record { one = m; entries = entries; tells = tells _ true false false false false refl refl refl refl refl; message = refl; number = refl; fresh = refl; delay = delay; waits = waits; arrives = λ e. cc; told = refl; sent = λ _. (refl, refl); entered = o; after = refl }))
+        (record {
+          given = λ e one i z g h.
+              let is : m ≡ one = let found : Some m ≡ Some one = sym (pushed_found c.queue.arrivals c.queue.records m refl s.given_out) ∙ i in cc in
+              subst (IsGiven c.queue key.at g) is (subst (λ y. IsGiven c.queue key.at y m) (x.1 z g h) (record { delay = subst (λ n. Waits key.at n m) (sym w) waits; group = f }));
+          next = λ e. cc;
+          timed = λ e. cc;
+          repeats = λ e. cc;
+          arrives = λ _ e. cc;
+          enters = λ e y i n. given_key y.scope y.id (k y i n);
+          sends = λ e b f i. (given, x.0 b f i, refl);
+        })
+
+    -- the entries, and those with a new one
+    old_key : (e : Entry) → In c.queue.entries e → e.number ≡ c.queue.arrivals → GivesKey e.scope e.id
+    old_key e i n = let old : e.number < c.queue.arrivals = of_all (λ (z : Entry). z.number < c.queue.arrivals) c.queue.entries e s.entries i in absurd (omega (arith, old, n))
+
+    more_key : (scope : Option (List ℕ)) (id : List ℕ) → GivesKey scope id → (e : Entry) → In (with_entry c.queue key.at scope id).entries e → e.number ≡ c.queue.arrivals → GivesKey e.scope e.id
+    more_key scope id w e i n =
+        elim (in_append (living_entries key.at c.queue.entries) _ e i) as (λ _. GivesKey e.scope e.id) [
+          | inl j ↦
+              let old : e.number < c.queue.arrivals = of_all (λ (x : Entry). x.number < c.queue.arrivals) (living_entries key.at c.queue.entries) e (All-filter (λ x. nat_lt key.at x.end) (λ (x : Entry). x.number < c.queue.arrivals) c.queue.entries s.entries) j in
+              absurd (omega (arith, old, n))
+          | inr j ↦ elim j as (λ _. GivesKey e.scope e.id) [ inl is ↦ subst (λ (y : Entry). GivesKey y.scope y.id) is w | inr none ↦ absurd none ]
+        ]
+
+    unless_sent : (group : List ℕ) (scope : Option (List ℕ)) (id : List ℕ) (o : Option Entry) → GivesKey scope id → is_fifo c.queue.settings.kind ≡ true → Some group ≡ given.group → delay_given c.queue.settings given ≡ c.queue.settings.delay → living c.queue key.at scope id ≡ o → IsSent (send_unless c.queue key.at given.body group scope id o)
+    unless_sent group scope id None w y g d f = new_sent (Some group) c.queue.settings.delay (with_entry c.queue key.at scope id).entries d (λ _. g) (more_key scope id w) (more_entries c.queue scope id)
+    unless_sent group scope id (Some e) w y g d f =
+        one_row c c _ refl refl refl tt (stays (named_stays c.queue _ e.number refl (tells _ false false false false false refl refl refl refl refl) (named_by c scope id e s f) (λ h. cc) (λ h. cc)))
+        (record { given = λ t. cc; next = λ t. cc; timed = λ t. cc; sends = λ t. cc; enters = λ t. cc; arrives = λ t. cc; repeats = λ t. repeats_by c.queue _ scope id e y f refl refl (λ _ i z n h. given_key scope id w z n h ∙ ap (λ j. (j, Some id)) (sym i.0) ∙ ap (λ j. (e.scope, Some j)) (sym i.1)) })
+
+    with_sent : (scope : Scope) (group id : Option (List ℕ)) → ((g i : List ℕ) → group ≡ Some g → id ≡ Some i → GivesKey (scope_of scope g) i) → is_fifo c.queue.settings.kind ≡ true → group ≡ given.group → delay_given c.queue.settings given ≡ c.queue.settings.delay → IsSent (send_with c.queue scope key.at given.body group id)
+    with_sent scope None id w y g d = refused_sent refusals.MissingGroup
+    with_sent scope (Some group) None w y g d = refused_sent refusals.MissingDeduplication
+    with_sent scope (Some group) (Some id) w y g d = unless_sent group (scope_of scope group) id (living c.queue key.at (scope_of scope group) id) (w group id refl refl) y g d refl
+
+    pub sends_chain : (k : Kind) → c.queue.settings.kind ≡ k → IsSent (sends k c.queue key.at given.body given.delay given.group given.id)
+    sends_chain (Standard hosts sampled) y =
+        either IsSent (is_bad_delay 900 given.delay) _ _ (refused_sent refusals.BadDelay)
+        (new_sent None (delay_of c.queue given.delay) c.queue.entries (ap (λ j. delay_at j c.queue.settings.delay given.delay) y ∙ delay_alike c.queue given.delay) (λ f. absurd (true≢false (sym f ∙ ap is_fifo y))) old_key (old_entries c.queue))
+    sends_chain (Fifo content scope) y =
+        either IsSent (is_bad_delay 0 given.delay) _ _ (refused_sent refusals.BadDelay)
+        (with_sent scope given.group (deduplication_id content given.body given.id)
+        (λ g i e f. ap (λ j. key_given j given) y ∙ ap (λ j. (scope_given scope j, deduplication_id content given.body given.id)) e ∙ ap (λ j. (scope_given scope (Some g), j)) f ∙ ap (λ j. (j, Some i)) (scope_alike scope g))
+        (ap is_fifo y) refl (ap (λ j. delay_at j c.queue.settings.delay given.delay) y))
 
   -- deletes
   refused_row : (c : Core) (r : Row) → r.key ≡ key → r.queue ≡ c.queue.site → r.message ≡ None → Asks key c.queue r r.kind → Tells r false false false false false → words.is_repeat r.answer ≡ false → IsChain c (says c r)
@@ -324,7 +332,7 @@ module _ (u : Scenario) (past : List Row) (key : Key) where
       ∙ ap (λ b. released_when b (with_change q n (in_flight_until end)) n (in_flight_until end m)) (leaves_alike q.settings.policy end m)
       ∙ changed_back (leaves q.settings.policy m) q n end m ∙ sym (ap (released_found q n) f)
 
-  module _ (a : Actor) (c : Core) (text : List ℕ) (timeout : ℕ) (r : Receipt) (read : read_receipt text ≡ Some r) (s : IsStocked c.queue) where
+  module _ (a : Actor) (c : Core) (text : List ℕ) (timeout : ℕ) (r : Receipt) (read : read_receipt text ≡ Some r) (s : IsStocked c.queue) (home : is_actor_of u c.queue.site ≡ false) where
     -- of the answer that the change has
     abbrev IsChanged : Result (Option Load) Refusal × Queue → Type 0
     IsChanged x = change c.queue key.at r timeout ≡ x → IsChain c (change_answered key a c text timeout r x).effect
@@ -339,13 +347,13 @@ module _ (u : Scenario) (past : List Row) (key : Key) where
           none = λ f. cc;
         }
 
-    change_move : (m : Message) (end : ℕ) → AsksChange key c.queue (change_row key a c text answers.Ok (Some (id_of c.queue r.number)) (details.Timeout timeout)) → numbered r.number c.queue.records ≡ Some m → is_in_flight m ≡ true → Move key c.queue (change_row key a c text answers.Ok (Some (id_of c.queue r.number)) (details.Timeout timeout)) (with_change c.queue r.number (in_flight_until end))
-    change_move m end y f l =
+    change_move : (m : Message) → AsksChange key c.queue (change_row key a c text answers.Ok (Some (id_of c.queue r.number)) (details.Timeout timeout)) → numbered r.number c.queue.records ≡ Some m → is_in_flight m ≡ true → Move key c.queue (change_row key a c text answers.Ok (Some (id_of c.queue r.number)) (details.Timeout timeout)) (with_change c.queue r.number (in_flight_until (key.at + 1000 * timeout)))
+    change_move m y f l =
         record {
           at_key = refl;
           at_site = refl;
           asked = y;
-          does = changes (record { one = m; number = r.number; end = end; tells = tells _ false false true false false refl refl refl refl refl; names = record { there = f; message = refl; sure = refl }; flies = l; after = refl });
+          does = changes (record { one = m; number = r.number; timeout = timeout; tells = tells _ false false true false false refl refl refl refl refl; names = record { there = f; message = refl; sure = refl }; flies = l; told = refl; after = refl });
         }
 
     kept_change : (m : Message) → numbered r.number c.queue.records ≡ Some m → is_in_flight m ≡ true → (timeout == 0) ≡ false → IsChanged (Ok None, with_change c.queue r.number (in_flight_until (key.at + 1000 * timeout)))
@@ -354,26 +362,28 @@ module _ (u : Scenario) (past : List Row) (key : Key) where
         let row : Row = change_row key a c text answers.Ok (Some (id_of c.queue r.number)) (details.Timeout timeout) in
         let one : Effect = says (with_queue c q) row in
         let both : Effect = and_then one (λ d. came_back key d r.number None) in
-        subst (IsChain c) (sym (ap (λ b. if b then both else one) e)) (record { chain = one_move u past key c.queue row q (change_move m (key.at + 1000 * timeout) (asks_change _ row refl refl x) f l) (of_none u past c.queue row q refl refl refl); actors = refl })
+        subst (IsChain c) (sym (ap (λ b. if b then both else one) e)) (record { chain = one_move u past key c.queue row q (change_move m (asks_change _ row refl refl x) f l) (of_none u past c.queue row q refl refl refl); actors = refl; sent = All-nil (FitsSender u) })
 
     back_change : (m : Message) → numbered r.number c.queue.records ≡ Some m → is_in_flight m ≡ true → (timeout == 0) ≡ true → IsChanged (returned (released c.queue r.number))
     back_change m f l e w =
         let n : ℕ = r.number in
         let x : Queue × Option Load = released c.queue n in
-        let taken : Queue = with_change c.queue n (in_flight_until key.at) in
+        let end : ℕ = key.at + 1000 * timeout in
+        let now : end ≡ key.at = let zero : timeout ≡ 0 = eqb-true timeout 0 e in omega (arith, zero) in
+        let taken : Queue = with_change c.queue n (in_flight_until end) in
         let row : Row = change_row key a c text answers.Ok (Some (id_of c.queue n)) (details.Timeout timeout) in
         let behind : List Row = past ++ row ∷ [] in
         let d : Core = with_queue c x.0 in
         let one : Effect = says d row in
         let both : Effect = and_then one (λ d. came_back key d n x.1) in
-        let same : released taken n ≡ x = released_changed c.queue n key.at m f in
+        let same : released taken n ≡ x = released_changed c.queue n end m f in
         let back : (e : Core) → e.queue.site ≡ c.queue.site → e.queue.settings ≡ c.queue.settings → Chain u behind key taken (came_back key e n x.1).rows x.0 =
-        λ e i j. subst (λ (y : Queue × Option Load). Chain u behind key taken (came_back key e n y.1).rows y.0) same (one_back key u behind taken e n (in_flight_until key.at m) i j (own_changed n (in_flight_until key.at) (λ x. refl) c.queue.records m f)) in
-        let first : Chain u past key c.queue (row ∷ []) taken = one_move u past key c.queue row taken (change_move m key.at (asks_change _ row refl refl w) f l) (of_none u past c.queue row taken refl refl refl) in
+        λ e i j. subst (λ (y : Queue × Option Load). Chain u behind key taken (came_back key e n y.1).rows y.0) same (one_back key u behind taken e n (in_flight_until end m) i j (own_changed n (in_flight_until end) (λ x. refl) c.queue.records m f) (ap (λ t. Some t) now)) in
+        let first : Chain u past key c.queue (row ∷ []) taken = one_move u past key c.queue row taken (change_move m (asks_change _ row refl refl w) f l) (of_none u past c.queue row taken refl refl refl) in
         let kept : Keeps c.queue x.0 = chain_keeps u past key (row ∷ [] ++ (came_back key c n x.1).rows) c.queue x.0 (chain_append u past key (row ∷ []) (came_back key c n x.1).rows c.queue taken x.0 first (back c refl refl)) s in
         let after : Told key d (came_back key d n x.1).core = back_told key d n x.1 in
         let chain : Chain u past key c.queue both.rows x.0 = chain_append u past key (row ∷ []) (came_back key d n x.1).rows c.queue taken x.0 first (back d (sym kept.site) (sym kept.settings)) in
-        subst (IsChain c) (sym (ap (λ b. if b then both else one) e)) (record { chain = subst (Chain u past key c.queue both.rows) (sym after.queue) chain; actors = after.actors })
+        subst (IsChain c) (sym (ap (λ b. if b then both else one) e)) (record { chain = subst (Chain u past key c.queue both.rows) (sym after.queue) chain; actors = after.actors; sent = back_fits key u d n x.1 (ap (is_actor_of u) (sym kept.site) ∙ home) })
 
     changed_chain : IsChanged (change c.queue key.at r timeout)
     changed_chain =
@@ -388,13 +398,13 @@ module _ (u : Scenario) (past : List Row) (key : Key) where
   no_receipt true = inr refl
   no_receipt false = inl refl
 
-  change_chain_of : (a : Actor) (c : Core) (text : List ℕ) (timeout : ℕ) (o : Option Receipt) → read_receipt text ≡ o → IsStocked c.queue → IsChain c (change_made key a c text timeout o).effect
-  change_chain_of a c text timeout None e s =
+  change_chain_of : (a : Actor) (c : Core) (text : List ℕ) (timeout : ℕ) (o : Option Receipt) → read_receipt text ≡ o → IsStocked c.queue → is_actor_of u c.queue.site ≡ false → IsChain c (change_made key a c text timeout o).effect
+  change_chain_of a c text timeout None e s home =
       refused_row c _ refl refl refl (record { text = text; given = refl; timeout = timeout; by = λ y f. cc; none = λ f. no_receipt (nat_lt 43200 timeout) }) (tells _ false false false false false refl refl refl refl refl) refl
-  change_chain_of a c text timeout (Some r) e s = changed_chain a c text timeout r e s refl
+  change_chain_of a c text timeout (Some r) e s home = changed_chain a c text timeout r e s home refl
 
-  pub change_chain : (a : Actor) (c : Core) (text : List ℕ) (timeout : ℕ) → IsStocked c.queue → IsChain c (change_made key a c text timeout (read_receipt text)).effect
-  change_chain a c text timeout s = change_chain_of a c text timeout (read_receipt text) refl s
+  pub change_chain : (a : Actor) (c : Core) (text : List ℕ) (timeout : ℕ) → IsStocked c.queue → is_actor_of u c.queue.site ≡ false → IsChain c (change_made key a c text timeout (read_receipt text)).effect
+  change_chain a c text timeout s home = change_chain_of a c text timeout (read_receipt text) refl s home
 
   -- what is due of messages
   pub expiry_chain : (c : Core) (m : Message) → numbered key.number c.queue.records ≡ Some m → key.at ≡ m.enqueued + c.queue.settings.retention → IsChain c (handle_expiry key c)
@@ -404,30 +414,51 @@ module _ (u : Scenario) (past : List Row) (key : Key) where
       (ends (record { one = m; number = key.number; tells = tells _ false false false false true refl refl refl refl refl; names = record { there = f; message = refl; sure = refl }; kind = refl; rested = λ e. cc; age = λ n t. refl; due = λ n t. l; after = refl }))
       (of_none u past c.queue _ _ refl refl refl))
 
-  pub release_chain : (c : Core) (m : Message) → IsStocked c.queue → numbered key.number c.queue.records ≡ Some m → IsChain c (release_done key c (released c.queue key.number))
-  release_chain c m s f =
+  pub release_chain : (c : Core) (m : Message) → IsStocked c.queue → numbered key.number c.queue.records ≡ Some m → m.release ≡ Some key.at → is_actor_of u c.queue.site ≡ false → IsChain c (release_done key c (released c.queue key.number))
+  release_chain c m s f l home =
       let n : ℕ = key.number in
       let x : Queue × Option Load = released c.queue n in
       let d : Core = with_queue c x.0 in
-      let old : Chain u past key c.queue (came_back key c n x.1).rows x.0 = one_back key u past c.queue c n m refl refl f in
+      let old : Chain u past key c.queue (came_back key c n x.1).rows x.0 = one_back key u past c.queue c n m refl refl f l in
       let kept : Keeps c.queue x.0 = chain_keeps u past key (came_back key c n x.1).rows c.queue x.0 old s in
       let after : Told key d (came_back key d n x.1).core = back_told key d n x.1 in
       record {
-        chain = subst (Chain u past key c.queue (came_back key d n x.1).rows) (sym after.queue) (one_back key u past c.queue d n m (sym kept.site) (sym kept.settings) f);
+        chain = subst (Chain u past key c.queue (came_back key d n x.1).rows) (sym after.queue) (one_back key u past c.queue d n m (sym kept.site) (sym kept.settings) f l);
         actors = after.actors;
+        sent = back_fits key u d n x.1 (ap (is_actor_of u) (sym kept.site) ∙ home);
       }
 
   -- arrivals
   abbrev IsArrived : Core → Load → (Sent × Bool) × Queue → Type 0
   IsArrived c load x = IsChain c (arrival_done key load c x)
 
-  come_move : (c : Core) (r : Row) (m : Message) (entries : List Entry) → r.key ≡ key → r.queue ≡ c.queue.site → r.message ≡ Some (id_of c.queue c.queue.arrivals) → Asks key c.queue r r.kind → Tells r true false false false false → m.number ≡ c.queue.arrivals → m.receives ≡ 0 → is_in_flight m ≡ false → origin_in r (Some (id_of c.queue c.queue.arrivals)) ≡ Some m.origin → words.is_send r.kind ≡ false → All (IsEntered key c.queue) entries → Move key c.queue r (with_message (record c.queue { entries = entries }) m)
-  come_move c r m entries k s i y t n f l g d o = record { at_key = k; at_site = s; asked = y; does = comes (record { one = m; entries = entries; tells = t; message = i; number = n; fresh = f; rests = l; told = g; sent = λ t. cc; entered = o; after = refl }) }
+  -- what arrives has the delay of its queue or none
+  abbrev WaitsAs : Core → Message → Type 0
+  WaitsAs c m = (delay : ℕ) × Waits key.at delay m × ((delay ≡ 0) ⊎ (delay ≡ c.queue.settings.delay))
 
-  settled_chain : (b : Bool) (c : Core) (load : Load) (m : Message) → m.number ≡ c.queue.arrivals → m.receives ≡ 0 → is_in_flight m ≡ false → load_origin load (id_of c.queue c.queue.arrivals) ≡ m.origin → (m.source ≡ None → load_age load key.at ≡ key.at - m.enqueued) → (m.source ≡ None → b ≡ true → key.at ≡ m.enqueued + c.queue.settings.retention) → IsStocked c.queue → IsArrived c load (settled_when b c.queue m)
-  settled_chain false c load m n f l g d w s =
-      record { chain = one_move u past key c.queue _ _ (come_move c _ m c.queue.entries refl refl refl tt (tells _ true false false false false refl refl refl refl refl) n f l (ap (λ x. Some x) g) refl (old_entries c.queue)) (of_none u past c.queue _ _ refl refl refl); actors = refl }
-  settled_chain true c load m n f l g d w s =
+  come_move : (c : Core) (r : Row) (m : Message) (entries : List Entry) → r.key ≡ key → r.queue ≡ c.queue.site → r.message ≡ Some (id_of c.queue c.queue.arrivals) → Asks key c.queue r r.kind → Tells r true false false false false → m.number ≡ c.queue.arrivals → m.receives ≡ 0 → WaitsAs c m → origin_in r (Some (id_of c.queue c.queue.arrivals)) ≡ Some m.origin → words.is_send r.kind ≡ false → All (IsEntered key c.queue) entries → Move key c.queue r (with_message (record c.queue { entries = entries }) m)
+  come_move c r m entries k s i y t n f l g d o = record { at_key = k; at_site = s; asked = y; does = comes (record { one = m; entries = entries; tells = t; message = i; number = n; fresh = f; delay = l.0; waits = l.1; arrives = λ _. l.2; told = g; sent = λ t. cc; entered = o; after = refl }) }
+
+  -- what a row tells by which a message arrives
+  come_behind : (c : Core) (r : Row) (m : Message) (p : Queue) → words.is_send r.kind ≡ false → words.received r ≡ false → words.is_repeat r.answer ≡ false → numbered c.queue.arrivals p.records ≡ Some m → r.key ≡ key → (is_actor_of u r.agent ≡ true → Waits key.at c.queue.settings.delay m) → IsBehind u past c.queue r p
+  come_behind c r m p a b d i k w =
+      let none : (words.is_send r.kind && words.comes r) ≡ false = ap (λ x. x && words.comes r) a in
+      record {
+        given = λ e. absurd (true≢false (sym e ∙ none));
+        next = λ e. absurd (true≢false (sym e ∙ b));
+        timed = λ e. absurd (true≢false (sym e ∙ b));
+        repeats = λ e. absurd (true≢false (sym e ∙ d));
+        sends = λ e. absurd (true≢false (sym e ∙ none));
+        enters = λ e. absurd (true≢false (sym e ∙ none));
+        arrives = λ _ _ t one j.
+            let is : m ≡ one = let found : Some m ≡ Some one = sym i ∙ j in cc in
+            subst (λ (x : Key). Waits x.at c.queue.settings.delay one) (sym k) (subst (Waits key.at c.queue.settings.delay) is (w t));
+      }
+
+  settled_chain : (b : Bool) (c : Core) (load : Load) (m : Message) → (is_actor_of u key.agent ≡ false) → m.number ≡ c.queue.arrivals → m.receives ≡ 0 → WaitsAs c m → load_origin load (id_of c.queue c.queue.arrivals) ≡ m.origin → (m.source ≡ None → load_age load key.at ≡ key.at - m.enqueued) → (m.source ≡ None → b ≡ true → key.at ≡ m.enqueued + c.queue.settings.retention) → IsStocked c.queue → IsArrived c load (settled_when b c.queue m)
+  settled_chain false c load m task n f l g d w s =
+      record { chain = one_move u past key c.queue _ _ (come_move c _ m c.queue.entries refl refl refl tt (tells _ true false false false false refl refl refl refl refl) n f l (ap (λ x. Some x) g) refl (old_entries c.queue)) (come_behind c _ m _ refl refl refl (pushed_found c.queue.arrivals c.queue.records m n s.given_out) refl (λ e. absurd (true≢false (sym e ∙ task)))); actors = refl; sent = All-nil (FitsSender u) }
+  settled_chain true c load m task n f l g d w s =
       let q : Queue = c.queue in
       let x : Queue = with_message q m in
       let gone : taken_out x q.arrivals ≡ record q { arrivals = q.arrivals + 1 } = ap (λ records. record q { records = records; arrivals = q.arrivals + 1 }) (pushed_out q.arrivals q.records m n s.given_out) in
@@ -435,7 +466,7 @@ module _ (u : Scenario) (past : List Row) (key : Key) where
         chain = (
           x,
           come_move c _ m q.entries refl refl refl tt (tells _ true false false false false refl refl refl refl refl) n f l (ap (λ x. Some x) g) refl (old_entries q),
-          of_none u past q _ _ refl refl refl,
+          come_behind c _ m x refl refl refl (pushed_found q.arrivals q.records m n s.given_out) refl (λ e. absurd (true≢false (sym e ∙ task))),
           one_move u (past ++ _ ∷ []) key x _ (record q { arrivals = q.arrivals + 1 })
               (record {
                 at_key = refl;
@@ -445,36 +476,42 @@ module _ (u : Scenario) (past : List Row) (key : Key) where
               }) (of_none u _ x _ _ refl refl refl),
         );
         actors = refl;
+        sent = All-nil (FitsSender u);
       }
 
-  new_come : (c : Core) (id : MessageId) (group : Option (List ℕ)) (body : List ℕ) (m : Message) (entries : List Entry) → m.number ≡ c.queue.arrivals → m.receives ≡ 0 → is_in_flight m ≡ false → record { site = c.queue.site; number = c.queue.arrivals } ≡ m.origin → All (IsEntered key c.queue) entries → IsArrived c (Forward id group body) ((New (id_of c.queue c.queue.arrivals), false), with_message (record c.queue { entries = entries }) m)
-  new_come c id group body m entries n f l g o =
-      record { chain = one_move u past key c.queue _ _ (come_move c _ m entries refl refl refl tt (tells _ true false false false false refl refl refl refl refl) n f l (ap (λ x. Some x) g) refl o) (of_none u past c.queue _ _ refl refl refl); actors = refl }
+  new_come : (c : Core) (id : MessageId) (group : Option (List ℕ)) (body : List ℕ) (m : Message) (entries : List Entry) → IsStocked c.queue → Waits key.at c.queue.settings.delay m → m.number ≡ c.queue.arrivals → m.receives ≡ 0 → WaitsAs c m → record { site = c.queue.site; number = c.queue.arrivals } ≡ m.origin → All (IsEntered key c.queue) entries → IsArrived c (Forward id group body) ((New (id_of c.queue c.queue.arrivals), false), with_message (record c.queue { entries = entries }) m)
+  new_come c id group body m entries s w n f l g o =
+      record { chain = one_move u past key c.queue _ _ (come_move c _ m entries refl refl refl tt (tells _ true false false false false refl refl refl refl refl) n f l (ap (λ x. Some x) g) refl o) (come_behind c _ m _ refl refl refl (pushed_found c.queue.arrivals c.queue.records m n s.given_out) refl (λ _. w)); actors = refl; sent = All-nil (FitsSender u) }
 
   unless_come : (c : Core) (id : MessageId) (g : Option (List ℕ)) (b body group : List ℕ) (scope : Option (List ℕ)) (text : List ℕ) (o : Option Entry) → is_fifo c.queue.settings.kind ≡ true → living c.queue key.at scope text ≡ o → IsStocked c.queue → IsArrived c (Forward id g b) (sent_of c.queue (send_unless c.queue key.at body group scope text o))
   unless_come c id g b body group scope text None y f s =
-      new_come c id g b (new_message c.queue key.at body (Some group) c.queue.settings.delay) (with_entry c.queue key.at scope text).entries refl refl (rests_at c.queue body (Some group) c.queue.settings.delay) refl (more_entries c.queue scope text)
+      new_come c id g b (new_message c.queue key.at body (Some group) c.queue.settings.delay) (with_entry c.queue key.at scope text).entries s (waits_at c.queue body (Some group) c.queue.settings.delay) refl refl (c.queue.settings.delay, waits_at c.queue body (Some group) c.queue.settings.delay, inr refl) refl (more_entries c.queue scope text)
   unless_come c id g b body group scope text (Some e) y f s =
       record {
-        chain = one_move u past key c.queue _ _ (record { at_key = refl; at_site = refl; asked = tt; does = stays (named_stays c.queue _ e.number refl (tells _ false false false false false refl refl refl refl refl) (named_by c scope text e s f) (λ h. cc) (λ h. cc)) }) (record { given = λ t. cc; next = λ t. cc; sends = λ t. cc; enters = λ t. cc; repeats = λ t. repeats_by c.queue _ scope text e y f refl refl (λ t. cc) });
+        chain = one_move u past key c.queue _ _ (record { at_key = refl; at_site = refl; asked = tt; does = stays (named_stays c.queue _ e.number refl (tells _ false false false false false refl refl refl refl refl) (named_by c scope text e s f) (λ h. cc) (λ h. cc)) }) (record { given = λ t. cc; next = λ t. cc; timed = λ t. cc; sends = λ t. cc; enters = λ t. cc; repeats = λ t. repeats_by c.queue _ scope text e y f refl refl (λ t. cc); arrives = λ t. cc });
         actors = refl;
+        sent = All-nil (FitsSender u);
       }
 
   forwarded_chain : (k : Kind) (c : Core) (id : MessageId) (body : List ℕ) (group : Option (List ℕ)) → c.queue.settings.kind ≡ k → IsStocked c.queue → IsArrived c (Forward id group body) (forwarded k c.queue key.at id body group)
   forwarded_chain (Standard hosts sampled) c id body group y s =
-      new_come c id group body (new_message c.queue key.at body None c.queue.settings.delay) c.queue.entries refl refl (rests_at c.queue body None c.queue.settings.delay) refl (old_entries c.queue)
+      new_come c id group body (new_message c.queue key.at body None c.queue.settings.delay) c.queue.entries s (waits_at c.queue body None c.queue.settings.delay) refl refl (c.queue.settings.delay, waits_at c.queue body None c.queue.settings.delay, inr refl) refl (old_entries c.queue)
   forwarded_chain (Fifo content scope) c id body group y s =
       let g : List ℕ = forwarded_group group in
       unless_come c id group body body g (scope_of scope g) (id_text id) (living c.queue key.at (scope_of scope g) (id_text id)) (ap is_fifo y) refl s
 
-  pub arrived_chain : (c : Core) (load : Load) → IsStocked c.queue → IsArrived c load (arrived c.queue key.at load)
-  arrived_chain c (Redrive id group origin body enqueued) s =
+  no_actor : (b : Bool) → (b ≡ true → ⊥) → b ≡ false
+  no_actor true f = absurd (f refl)
+  no_actor false f = refl
+
+  pub arrived_chain : (c : Core) (load : Load) → (is_actor_of u key.agent ≡ true → IsForward load) → IsStocked c.queue → IsArrived c load (arrived c.queue key.at load)
+  arrived_chain c (Redrive id group origin body enqueued) t s =
       let m : Message = brought c.queue key.at origin body group (enqueued_at c.queue.settings.kind key.at enqueued) (Some id.site) in
-      settled_chain (is_too_old c.queue key.at m) c (Redrive id group origin body enqueued) m refl refl refl refl (λ y. cc) (λ y. cc) s
-  arrived_chain c (Moves id group origin body) s =
+      settled_chain (is_too_old c.queue key.at m) c (Redrive id group origin body enqueued) m (no_actor (is_actor_of u key.agent) t) refl refl (0, record { place = refl; release = refl }, inl refl) refl (λ y. cc) (λ y. cc) s
+  arrived_chain c (Moves id group origin body) t s =
       let m : Message = brought c.queue key.at origin body group key.at None in
-      settled_chain (is_too_old c.queue key.at m) c (Moves id group origin body) m refl refl refl refl (λ y. omega arith) (λ y t. let none : c.queue.settings.retention ≤ key.at - key.at = leb-true c.queue.settings.retention (key.at - key.at) t in omega (arith, none)) s
-  arrived_chain c (Forward id group body) s = forwarded_chain c.queue.settings.kind c id body group refl s
+      settled_chain (is_too_old c.queue key.at m) c (Moves id group origin body) m (no_actor (is_actor_of u key.agent) t) refl refl (0, record { place = refl; release = refl }, inl refl) refl (λ y. omega arith) (λ y t. let none : c.queue.settings.retention ≤ key.at - key.at = leb-true c.queue.settings.retention (key.at - key.at) t in omega (arith, none)) s
+  arrived_chain c (Forward id group body) t s = forwarded_chain c.queue.settings.kind c id body group refl s
 
   -- steps of tasks
   moved_stand : (q : Queue) (m : Message) (ms : List Message) → All (λ x. x.number ≢ m.number) ms → Stand q ms → Stand (taken_out q m.number) ms
@@ -529,8 +566,27 @@ module _ (u : Scenario) (past : List Row) (key : Key) where
         | Some n ↦ taken_site to ms (taken_out q m.number)
       ]
 
-  pub step_chain : (c : Core) (t : Task) → IsStocked c.queue → IsChain c (handle_step key c (Some t))
-  step_chain c t s =
+  moves_fit : (c : Core) (t : Task) (loads : List (ℕ × Load)) → is_actor_of u t.number ≡ false → All (FitsSender u) (moves key c t loads).sent
+  moves_fit c t [] h = All-nil (FitsSender u)
+  moves_fit c t (x ∷ rest) h = All-cons (FitsSender u) _ _ (λ e. absurd (true≢false (sym e ∙ h))) (moves_fit c (one_sent t (drawn_latency t.move.settings.latency t.draws).1) rest h)
+
+  moves_task : (c : Core) (t : Task) (loads : List (ℕ × Load)) → (moves key c t loads).task.number ≡ t.number
+  moves_task c t [] = refl
+  moves_task c t (x ∷ rest) = moves_task c (one_sent t (drawn_latency t.move.settings.latency t.draws).1) rest
+
+  pub stepped_task : (c : Core) (t : Task) → All (λ x. is_actor_of u x.number ≡ false) c.tasks → is_actor_of u t.number ≡ false → All (λ x. is_actor_of u x.number ≡ false) (handle_step key c (Some t)).core.tasks
+  stepped_task c t h f =
+      let y : (List (ℕ × Load) × Rest) × Queue = take_movable c.queue t.move.settings.per_second t.move.settings.to in
+      let m : Moved = moves key (with_queue c y.1) t y.0.0 in
+      let x : Task = record m.task { move = task_stepped m.task.move key.at (length y.0.0) y.0.1 } in
+      all_changed (is_task x.number) (λ (z : Task). is_actor_of u z.number ≡ false) (λ _. x) (λ _ _. ap (is_actor_of u) (moves_task (with_queue c y.1) t y.0.0) ∙ f) c.tasks h
+
+  -- a step, but for what becomes of its task
+  abbrev pub step_of : Core → Task → Effect
+  step_of c t = let e : Effect = handle_step key c (Some t) in record { core = record e.core { tasks = c.tasks }; rows = e.rows; sent = e.sent }
+
+  pub step_chain : (c : Core) (t : Task) → is_actor_of u t.number ≡ false → IsStocked c.queue → IsChain c (step_of c t)
+  step_chain c t h s =
       let set : ℕ = all_hosts c.queue.settings.kind in
       let most : ℕ = t.move.settings.per_second in
       let to : Option ℕ = t.move.settings.to in
@@ -541,4 +597,4 @@ module _ (u : Scenario) (past : List Row) (key : Key) where
       let x : Task = record m.task { move = task_stepped m.task.move key.at (length y.0.0) y.0.1 } in
       let site : y.1.site ≡ c.queue.site = taken_site to ms c.queue in
       let first : Chain u past key c.queue m.rows y.1 = moved_chain past to ms c.queue d t site (first_apart c.queue set most s.ordered) (first_stand c.queue set most s.ordered) (All-take (λ m. is_visible m ≡ true) most (all_available c.queue) (visible_available c.queue.settings.kind set c.queue.records)) in
-      record { chain = chain_append u past key m.rows (end_row key d x y.0.1) c.queue y.1 y.1 first (end_chain (past ++ m.rows) d y.1 x y.0.1 refl); actors = refl }
+      record { chain = chain_append u past key m.rows (end_row key d x y.0.1) c.queue y.1 y.1 first (end_chain (past ++ m.rows) d y.1 x y.0.1 refl); actors = refl; sent = moves_fit d t y.0.0 h }

@@ -6,6 +6,7 @@ use Rattle.sqs_model.specs.Scenario.{Scenario}
 use Rattle.sqs_model.specs.Valid.{IsQueueSettings}
 use Rattle.sqs_laws.specs.Laws.{KeepsTheRules}
 use Rattle.sqs_laws.proofs.Ages.{ages_are_told}
+use Rattle.sqs_laws.proofs.Delays.{delays_are_kept}
 use Rattle.sqs_laws.proofs.End.{ends_are_ends}
 use Rattle.sqs_laws.proofs.Fifo.{groups_are_in_order, sends_are_given}
 use Rattle.sqs_laws.proofs.InFlight.{flights_are_told}
@@ -13,6 +14,7 @@ use Rattle.sqs_laws.proofs.Letters.{letters_are_dead}
 use Rattle.sqs_laws.proofs.Order.{rows_in_time}
 use Rattle.sqs_laws.proofs.Origins.{origins_are_told}
 use Rattle.sqs_laws.proofs.Receipts.{receipts_are_known}
+use Rattle.sqs_laws.proofs.Releases.{releases_are_kept}
 use Rattle.sqs_laws.proofs.Repeats.{repeats_are_recent}
 
 pub keeps_the_rules : (s : Scenario) → IsSoundScenario s → All IsQueueSettings s.queues → (r : Run) → IsRunOf s r → KeepsTheRules s r.rows
@@ -27,5 +29,7 @@ keeps_the_rules s sound valid r is =
       sends = sends_are_given s r is;
       fifo = groups_are_in_order s sound r is;
       repeats = repeats_are_recent s sound r is;
+      delays = delays_are_kept s sound r is;
+      releases = releases_are_kept s sound r is;
       in_time = rows_in_time s sound r is;
     }

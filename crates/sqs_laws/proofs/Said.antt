@@ -3,7 +3,7 @@ use Rattle.std.specs.List.{list_any}
 use Rattle.std.specs.Prelude.{All, Bool, List, None, Option, Some, [], cond, count_by, false, true, ℕ, ◌&&◌, ◌+◌, ◌++◌, ◌<◌, ◌==◌, ◌∷◌, ◌≡◌, ◌≢◌, ◌≤◌, ◌||◌}
 use Rattle.std.proofs.Common.{ap, arith, refl, sym, ◌∙◌}
 use Rattle.std.proofs.Math.Bool.{or-false, or-true}
-use Rattle.std.proofs.lemmas.Bool.{eqb-true, ne_eqb}
+use Rattle.std.proofs.lemmas.Bool.{eqb-true, ne_eqb, or_parts}
 use Rattle.std.proofs.lemmas.Bool.Decides.{nat_tests}
 use Rattle.std.proofs.lemmas.List.Folds.{list_any-append}
 use Rattle.std.proofs.lemmas.List.Elements.{All-head, All-tail}
@@ -14,11 +14,11 @@ use Rattle.sqs_message.specs.declared.message.Message.{Message}
 use Rattle.sqs_message.specs.declared.row.Row.{Row}
 use Rattle.sqs_message.specs.declared.row.RowAnswer.{RowAnswer}
 use Rattle.sqs_message.specs.declared.row.RowAnswer.TheVariants as answers
-use Rattle.sqs_model.specs.Accounts.{same_id}
+use Rattle.sqs_model.specs.Accounts.{same_id, is_deleted, is_expired}
 use Rattle.sqs_model.specs.Queue.{has_number, numbered}
 use Rattle.sqs_model.proofs.Ledger.{bit}
 use Rattle.sqs_model.proofs.Numbered.{Climbs}
-use Rattle.sqs_laws.specs.Words.{comes, comings, has_left, is_gone, is_new, leaves, names, received, times}
+use Rattle.sqs_laws.specs.Words.{comes, comings, has_left, is_gone, is_new, leaves, names, received, times, is_redrive, is_move}
 pub use Rattle.sqs_laws.proofs.Naming.{names_id, names_other, names_same}
 use Rattle.sqs_laws.proofs.Worlds.{NamesOwn}
 
@@ -61,6 +61,12 @@ times_as m rows r b e = count_push (λ x. received x && names m x) rows r ∙ ap
 
 pub comings_as : (n : ℕ) (rows : List Row) (r : Row) (b : Bool) → (comes r && r.queue == n) ≡ b → comings n (rows ++ r ∷ []) ≡ comings n rows + bit b
 comings_as n rows r b e = count_push (λ x. comes x && x.queue == n) rows r ∙ ap (λ y. comings n rows + bit y) e
+
+-- a row that tells of none that leaves is no redrive and no move
+pub none_leaves : (r : Row) → leaves r ≡ false → (is_redrive r.kind ≡ false) × (is_move r.kind ≡ false)
+none_leaves r l =
+    let a = or_parts (is_deleted r.answer || is_expired r.answer || is_redrive r.kind) (is_move r.kind) l in
+    ((or_parts (is_deleted r.answer || is_expired r.answer) (is_redrive r.kind) a.0).1, a.1)
 
 -- messages by their numbers: one more, with the next number; one that is taken out
 pub pushed_other : (n : ℕ) (ms : List Message) (m : Message) → n ≢ m.number → numbered n (ms ++ m ∷ []) ≡ numbered n ms

@@ -37,6 +37,7 @@ use Rattle.sqs_model.specs.Task.{Task, take_movable}
 use Rattle.sqs_model.proofs.Branches.{either}
 use Rattle.sqs_model.proofs.CallWalk.{CallLaw, DueLaw, TellsOfNone, effect_of, handled_goes}
 use Rattle.sqs_model.proofs.Counts.{total, total_append}
+use Rattle.sqs_model.proofs.Sending.{always_each}
 use Rattle.sqs_laws.specs.Words.{is_arrive, sends_on}
 
 -- the row of a handling by which a transfer is sent
@@ -179,7 +180,7 @@ module _ (key : Key) (f g : Row → ℕ) (h : Outbound → ℕ) (plain : (r : Ro
         hears_none = λ c. tt;
         Woken = λ c n. Unit {0};
         Acted = λ c n. Unit {0};
-        gives = λ p c agent max timeout set i. (from_zero p _ i (given_weighs c agent timeout (give_most c.queue key.at max timeout set)), tt);
+        gives = λ p c agent max timeout set a i. (from_zero p _ i (given_weighs c agent timeout (give_most c.queue key.at max timeout set)), tt);
         changes = λ p a c text timeout i. from_zero p _ i (change_weighs a c text timeout (read_receipt text));
         deletes = λ p a c text i. from_zero p _ i (delete_weighs a c text (read_receipt text));
         sends = λ p a c body delay group id m i. from_zero p _ i (send_weighs a c body (sends c.queue.settings.kind c.queue key.at body delay group id));
@@ -188,9 +189,13 @@ module _ (key : Key) (f g : Row → ℕ) (h : Outbound → ℕ) (plain : (r : Ro
         cancels = λ p c n t e i. i;
         Stands = λ q actors a. Unit {0};
         May = λ c a x. Unit {0};
+        Asks = λ p agent timeout. Unit {0};
+        later = λ p e agent timeout a. tt;
+        asked = λ p a c max wait timeout s m i. tt;
+        waiting = λ p c i. always_each (λ x. Unit {0}) (λ x. tt) c.polls;
         turns = λ p n c a w e t i. (i, tt, tt);
         acted = λ p a c x i s m h g. tt;
-        polls = λ p a c max wait timeout e s i. i;
+        polls = λ p a c max wait timeout e s m k i. from_zero p _ i (one_row _ _ (nameless_plain kinds.Receive answers.Wait tt));
         serves = λ p a c id r failed o m i. from_zero p _ i (serve_weighs a c id r failed o);
       }
 

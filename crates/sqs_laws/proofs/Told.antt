@@ -1,7 +1,7 @@
 -- The log tells each journey of a message from queue to queue.
 use Rattle.std.specs.List.{count_by}
 use Rattle.std.specs.Prelude.{Bool, List, None, Option, Some, [], false, flat_map, length, map, nat_le, true, ℕ, ◌&&◌, ◌+◌, ◌<◌, ◌==◌, ◌∷◌, ◌≡◌, ◌≤◌}
-use Rattle.std.proofs.Common.{ap, arith, inl, inr, le-leb, refl, subst, ◌∙◌}
+use Rattle.std.proofs.Common.{ap, arith, inl, inr, le-leb, refl, subst, ◌∙◌, sym}
 use Rattle.std.proofs.lemmas.Bool.{leb-true}
 use Rattle.std.proofs.lemmas.List.{length-map}
 use Rattle.std.proofs.lemmas.List.Elements.{All-nil}
@@ -113,6 +113,19 @@ module _ (s : Scenario) (sound : IsSoundScenario s) (n : ℕ) (within : n < leng
   all_queues : length (opening s) ≡ length s.queues
   all_queues = length-map (enumerate_from 0 s.queues) (opening_site s) ∙ length-enumerate_from 0 s.queues
 
+  -- what holds of two weights at the end of a run
+  module _ (h : Outbound → ℕ) (elsewhere : (o : Outbound) → (o.to == n) ≡ false → h o ≡ 0) (f g : Row → ℕ) (R : ℕ → ℕ → Type 0) (nought : R 0 0) (adds : (a b c d : ℕ) → R a b → R c d → R (a + c) (b + d))
+      (handles : (key : Key) (x : Site) → Fine x → IsForSite x → In (dues x) key → Handles n h elsewhere f g R nought adds key x) where
+    abbrev All : Run → Type 0
+    All r = Holds n h elsewhere f g R nought adds Fine handles r
+
+    at_end : (r : Run) → IsRunOf s r → All r
+    at_end r is =
+        let none : 0 + total (λ (x : Site). total h x.arriving) (opening s) ≡ 0 = let bare : total (λ (x : Site). total h x.arriving) (opening s) ≡ 0 = opening_bare h (enumerate_from 0 s.queues) in omega (arith, bare) in
+        subst All is.reached
+        (holds_after n h elsewhere f g R nought adds Fine handles s.horizon (opening s) fine_after
+        (record { for = opening_for (enumerate_from 0 s.queues); numbers = setting.numbered; within = omega (arith, all_queues, within); sum = subst (λ m. R m 0) (sym none) nought }) is.steps)
+
   -- all that is sent on to the queue
   abbrev goes : Row → ℕ
   goes r = bit (goes_to n r)
@@ -152,15 +165,7 @@ module _ (s : Scenario) (sound : IsSoundScenario s) (n : ℕ) (within : n < leng
   all_told : (r : Run) → IsRunOf s r → count_by (goes_to n) r.rows ≡ count_by (arrives_at n) r.rows + count_by (λ t. t.to == n) (finals_of r.sites).transfers
   unfolding finals_of
   all_told r is =
-      let start : Holds n waits elsewhere goes arrives (λ a b. a ≡ b) refl equal Fine handles (record { sites = opening s; rows = [] }) =
-      record {
-        for = opening_for (enumerate_from 0 s.queues);
-        numbers = setting.numbered;
-        within = omega (arith, all_queues, within);
-        sum = let none : total (λ (x : Site). total waits x.arriving) (opening s) ≡ 0 = opening_bare waits (enumerate_from 0 s.queues) in omega (arith, none);
-      } in
-      let end : Holds n waits elsewhere goes arrives (λ a b. a ≡ b) refl equal Fine handles r =
-      subst (Holds n waits elsewhere goes arrives (λ a b. a ≡ b) refl equal Fine handles) is.reached (holds_after n waits elsewhere goes arrives (λ a b. a ≡ b) refl equal Fine handles s.horizon (opening s) fine_after start is.steps) in
+      let end = at_end waits elsewhere goes arrives (λ a b. a ≡ b) refl equal handles r is in
       let left : List Outbound = flat_map (λ (x : Site). x.arriving) r.sites in
       let to : total (λ (t : FinalTransfer). bit (t.to == n)) (map final_transfer (in_key_order left)) ≡ total waits (in_key_order left) =
       total_map (λ (t : FinalTransfer). bit (t.to == n)) final_transfer (in_key_order left) ∙ total_same (λ o. bit ((final_transfer o).to == n)) waits (λ o. ap (λ m. bit (m == n)) (final_to o o.load)) (in_key_order left) in
@@ -236,15 +241,7 @@ module _ (s : Scenario) (sound : IsSoundScenario s) (n : ℕ) (within : n < leng
     -- so nothing arrives too soon
     in_time_told : (r : Run) → IsRunOf s r → count_by (λ (x : Row). arrives_at n x && nat_le x.key.at moment) r.rows ≤ count_by (λ (x : Row). goes_to n x && nat_le (x.key.at + least) moment) r.rows
     in_time_told r is =
-        let start : Holds n awaited other went arrived (λ a b. a ≤ b) nought up Fine handles_by (record { sites = opening s; rows = [] }) =
-        record {
-          for = opening_for (enumerate_from 0 s.queues);
-          numbers = setting.numbered;
-          within = omega (arith, all_queues, within);
-          sum = let none : total (λ (x : Site). total awaited x.arriving) (opening s) ≡ 0 = opening_bare awaited (enumerate_from 0 s.queues) in omega (arith, none);
-        } in
-        let end : Holds n awaited other went arrived (λ a b. a ≤ b) nought up Fine handles_by r =
-        subst (Holds n awaited other went arrived (λ a b. a ≤ b) nought up Fine handles_by) is.reached (holds_after n awaited other went arrived (λ a b. a ≤ b) nought up Fine handles_by s.horizon (opening s) fine_after start is.steps) in
+        let end = at_end awaited other went arrived (λ a b. a ≤ b) nought up handles_by r is in
         omega (
           arith,
           count_total (λ (x : Row). arrives_at n x && nat_le x.key.at moment) r.rows,

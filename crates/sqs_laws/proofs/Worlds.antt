@@ -1,7 +1,7 @@
 -- A law that each single move keeps holds of all rows of a run.
 use Rattle.std.specs.List.{enumerate_from}
-use Rattle.std.specs.Prelude.{All, List, None, Option, Some, [], false, filter, get_or, if◌then◌else◌, length, map, nat_le, slice_get, suc, true, zero, ℕ, ◌+◌, ◌-◌, ◌++◌, ◌<◌, ◌==◌, ◌∷◌, ◌≡◌, ◌≢◌, ◌≤◌}
-use Rattle.std.proofs.Common.{ap, arith, refl, subst, sym, ◌∙◌}
+use Rattle.std.specs.Prelude.{All, List, None, Option, Some, [], false, filter, get_or, if◌then◌else◌, length, map, nat_le, slice_get, suc, true, zero, ℕ, ◌+◌, ◌-◌, ◌++◌, ◌<◌, ◌==◌, ◌∷◌, ◌≡◌, ◌≢◌, ◌≤◌, ◌&&◌}
+use Rattle.std.proofs.Common.{ap, arith, refl, subst, sym, ◌∙◌, nat_lt}
 use Rattle.std.proofs.lemmas.Bool.{leb-true}
 use Rattle.std.proofs.lemmas.List.{append-nil, append_assoc}
 use Rattle.std.proofs.lemmas.List.Elements.{All-cons, All-filter, All-head, All-map, All-nil, All-tail, All-weaker}
@@ -16,7 +16,7 @@ use Rattle.sqs_model.specs.Actor.{Actor}
 use Rattle.sqs_model.specs.Dues.{dues, least_due}
 use Rattle.sqs_model.specs.Queue.{Entry, Queue}
 use Rattle.sqs_model.specs.Run.{IsRunOf, Run, after}
-use Rattle.sqs_model.specs.Scenario.{Scenario, numbered_actors, opening, opening_actor, opening_site}
+use Rattle.sqs_model.specs.Scenario.{Scenario, numbered_actors, numbered_tasks, opening, opening_actor, opening_site, opening_task}
 use Rattle.sqs_model.specs.Site.{Site, accepted, number_of}
 use Rattle.sqs_model.specs.Step.{Handled, handled}
 use Rattle.sqs_model.specs.World.{Stepped, due_by, world_due, delivered, delivered_one, handled_among, handled_here, handled_there, is_due, next_due, stepped_at}
@@ -27,22 +27,39 @@ use Rattle.sqs_model.proofs.Opening.{ascends_enumerated, ascends_filter, ascends
 use Rattle.sqs_model.proofs.WorldAccounts.{due_fits}
 use Rattle.sqs_model.proofs.WorldMoves.{is_due_least, least_in}
 use Rattle.sqs_laws.specs.Words.{EachRow}
-use Rattle.sqs_laws.proofs.Chains.{IsInOrder, IsMoved, handled_moves}
+use Rattle.sqs_laws.proofs.Chains.{IsInOrder, IsMoved, arriving_fits, handled_moves, order_later}
 use Rattle.sqs_laws.proofs.Gives.{AreOfScenario, Fits, due_awake, first_fits}
 use Rattle.sqs_laws.proofs.Holding.{IsInformed}
+use Rattle.sqs_laws.proofs.Moments.{IsFrom, IsTimely, does_timely, due_timely}
 use Rattle.sqs_laws.proofs.Numbers.{due_over}
-use Rattle.sqs_laws.proofs.Moves.{Chain, IsBehind, IsStocked, Keeps, Move, chain_keeps, does_keep, moves_own}
+use Rattle.sqs_laws.proofs.Polled.{IsPolled, due_polls}
+use Rattle.sqs_laws.specs.Laws.{is_actor_of}
+use Rattle.sim_clock.proofs.Lists.{all_inserted}
+use Rattle.std.specs.Ordering.{on}
+use Rattle.sim_clock.specs.Order.{key_cmp}
+use Rattle.sqs_redrive.specs.Transfers.{transfer_key}
+use Rattle.sqs_redrive.specs.declared.settings.TaskSettings.{TaskSettings}
+use Rattle.sqs_model.specs.Task.{Task}
+use Rattle.std.proofs.lemmas.Option.{slice_get_within}
+use Rattle.std.proofs.lemmas.Bool.Decides.{nat_tests}
+use Rattle.std.proofs.Math.Bool.{and-false}
+use Rattle.sqs_laws.proofs.Moves.{FitsSender, Chain, IsBehind, IsStocked, Keeps, Move, chain_keeps, does_keep, moves_own}
 
 -- a row names no message of another queue
 abbrev pub NamesOwn : Row → Type 0
 NamesOwn r = (m : MessageId) → r.message ≡ Some m → m.site ≡ r.queue
+
+-- what holds of a queue before each row of a handling: it is by the horizon, and nothing should have come back before
+pub record IsNow (s : Scenario) (key : Key) (q : Queue) : Type 0 where
+  pub within : key.at ≤ s.horizon
+  pub timely : IsTimely key.at q
 
 -- A law of rows. `Holds rows queue` is what holds of a queue after all rows of a run so far. A move at the queue keeps it and its
 -- row meets the law; rows of other queues leave it.
 pub record RowLaw (s : Scenario) : Type 1 where
   pub Holds : List Row → Queue → Type 0
   pub Meets : List Row → Row → Type 0
-  pub moves : (rows : List Row) (key : Key) (q : Queue) (r : Row) (p : Queue) → key.at ≤ s.horizon → Move key q r p → IsBehind s rows q r p → IsStocked q → Holds rows q → Meets rows r × Holds (rows ++ r ∷ []) p
+  pub moves : (rows : List Row) (key : Key) (q : Queue) (r : Row) (p : Queue) → IsNow s key q → Move key q r p → IsBehind s rows q r p → IsStocked q → Holds rows q → Meets rows r × Holds (rows ++ r ∷ []) p
   pub apart : (rows : List Row) (r : Row) (q : Queue) → r.queue ≢ q.site → NamesOwn r → Holds rows q → Holds (rows ++ r ∷ []) q
   pub opens : (n : ℕ) (settings : QueueSettings) → slice_get s.queues n ≡ Some settings → Holds [] (record { site = n; settings = settings; records = []; entries = []; arrivals = 0 })
 
@@ -78,17 +95,17 @@ module _ (scenario : Scenario) (law : RowLaw scenario) where
     pub here : Holds (rows ++ rs) p
     pub apart : (t : Queue) → t.site ≢ q.site → Holds rows t → Holds (rows ++ rs) t
 
-  chain_passes : (key : Key) → key.at ≤ scenario.horizon → (rs rows : List Row) (q p : Queue) → Chain scenario rows key q rs p → IsStocked q → Holds rows q → Passes rows rs q p
-  chain_passes key by [] rows q p c s h =
+  chain_passes : (key : Key) (rs rows : List Row) (q p : Queue) → IsNow scenario key q → Chain scenario rows key q rs p → IsStocked q → Holds rows q → Passes rows rs q p
+  chain_passes key [] rows q p by c s h =
       record {
         each = tt;
         here = subst (λ r. Holds r p) (sym (append-nil rows)) (subst (Holds rows) c h);
         apart = λ t d k. subst (λ r. Holds r t) (sym (append-nil rows)) k;
       }
-  chain_passes key by (r ∷ rs) rows q p (x, m, g, c) s h =
+  chain_passes key (r ∷ rs) rows q p by (x, m, g, c) s h =
       let one : Meets rows r × Holds (rows ++ r ∷ []) x = law.moves rows key q r x by m g s h in
       let keeps : Keeps q x = does_keep key q r x m.does s in
-      let rest : Passes (rows ++ r ∷ []) rs x p = chain_passes key by rs (rows ++ r ∷ []) x p c keeps.stocked one.1 in
+      let rest : Passes (rows ++ r ∷ []) rs x p = chain_passes key rs (rows ++ r ∷ []) x p (record { within = by.within; timely = does_timely key q r x m.does by.timely }) c keeps.stocked one.1 in
       let own : NamesOwn r = moves_own key q r x m in
       let same : (rows ++ r ∷ []) ++ rs ≡ rows ++ (r ∷ rs) = append_assoc rows (r ∷ []) rs in
       record {
@@ -100,8 +117,10 @@ module _ (scenario : Scenario) (law : RowLaw scenario) where
 
   -- a site of a run
   pub record IsGood (rows : List Row) (s : Site) : Type 0 where
-    pub order : IsInOrder scenario s.core
+    pub order : IsInOrder scenario rows s.core
     pub holds : Holds rows s.core.queue
+    pub home : is_actor_of scenario (number_of s.core) ≡ false
+    pub arriving : All (FitsSender scenario) s.arriving
 
   -- sites of a world are numbered
   abbrev pub AreNumbered : ℕ → List Site → Type 0
@@ -118,27 +137,30 @@ module _ (scenario : Scenario) (law : RowLaw scenario) where
     pub each : EachAfter Meets rows t.rows
     pub good : All (IsGood (rows ++ t.rows)) t.sites
     pub numbers : AreNumbered n t.sites
+    pub sent : All (FitsSender scenario) t.sent
     pub before : (q : Queue) → q.site < n → Holds rows q → Holds (rows ++ t.rows) q
 
   here_steps : (key : Key) → key.at ≤ scenario.horizon → (rows : List Row) (n : ℕ) (s : Site) (ss : List Site) → All (IsGood rows) (s ∷ ss) → AreNumbered n (s ∷ ss) → least_due s ≡ Some key → Steps rows n (handled_here (handled key s) ss)
   here_steps key by rows n s ss g a d =
       let one : IsGood rows s = All-head (IsGood rows) s ss g in
       let h : Handled = handled key s in
+      let from : IsFrom key.at (least_due s) = subst (IsFrom key.at) (sym d) (let same : key.at ≤ key.at = omega arith in same) in
       let due : In (dues s) key = least_in (dues s) key d in
-      let moved : IsMoved scenario rows key s.core h.rows h.site.core = handled_moves scenario rows key s one.order (λ _. due_fits s key due) (due_over key s one.order.stocked due) (due_awake key s one.order.numbers.climb due) in
-      let p : Passes rows h.rows s.core.queue h.site.core.queue = chain_passes key by h.rows rows s.core.queue h.site.core.queue moved.chain one.order.stocked one.holds in
+      let moved : IsMoved scenario rows key s.core h.rows h.site.core h.sent = handled_moves scenario rows key s one.order one.home one.arriving (due_polls key.at s from) (λ _. due_fits s key due) (due_over key s one.order.stocked due) (due_awake key s one.order.numbers.climb due) in
+      let p : Passes rows h.rows s.core.queue h.site.core.queue = chain_passes key h.rows rows s.core.queue h.site.core.queue (record { within = by; timely = due_timely key.at s from }) moved.chain one.order.stocked one.holds in
       let site : number_of s.core ≡ number_of h.site.core = (chain_keeps scenario rows key h.rows s.core.queue h.site.core.queue moved.chain one.order.stocked).site in
       let others : All (λ x. n + 1 ≤ number_of x.core) ss = above (n + 1) ss a.1 in
       let rest : All (IsGood rows) ss = All-tail (IsGood rows) s ss g in
       record {
         each = p.each;
         good =
-            All-cons (IsGood (rows ++ h.rows)) h.site ss (record { order = moved.order; holds = p.here })
+            All-cons (IsGood (rows ++ h.rows)) h.site ss (record { order = moved.order; holds = p.here; home = ap (is_actor_of scenario) (sym site) ∙ one.home; arriving = arriving_fits scenario key s one.arriving })
             (λ i e l.
             let x : Site = get_or ss i e in
             let far : n + 1 ≤ number_of x.core = others i e l in
-            record { order = (rest i e l).order; holds = p.apart x.core.queue (λ y. absurd (omega (arith, far, y, a.0))) (rest i e l).holds });
+            record { order = order_later scenario rows h.rows x.core (rest i e l).order; home = (rest i e l).home; arriving = (rest i e l).arriving; holds = p.apart x.core.queue (λ y. absurd (omega (arith, far, y, a.0))) (rest i e l).holds });
         numbers = (sym site ∙ a.0, a.1);
+        sent = moved.sent;
         before = λ q l k. p.apart q (λ y. absurd (omega (arith, l, y, a.0))) k;
       }
 
@@ -147,8 +169,9 @@ module _ (scenario : Scenario) (law : RowLaw scenario) where
       let one : IsGood rows s = All-head (IsGood rows) s ss g in
       record {
         each = h.each;
-        good = All-cons (IsGood (rows ++ t.rows)) s t.sites (record { order = one.order; holds = h.before s.core.queue (omega (arith, a.0)) one.holds }) h.good;
+        good = All-cons (IsGood (rows ++ t.rows)) s t.sites (record { order = order_later scenario rows t.rows s.core one.order; holds = h.before s.core.queue (omega (arith, a.0)) one.holds; home = one.home; arriving = one.arriving }) h.good;
         numbers = (a.0, h.numbers);
+        sent = h.sent;
         before = λ q l k. h.before q (omega (arith, l)) k;
       }
 
@@ -158,6 +181,7 @@ module _ (scenario : Scenario) (law : RowLaw scenario) where
         each = tt;
         good = All-nil (IsGood (rows ++ []));
         numbers = tt;
+        sent = All-nil (FitsSender scenario);
         before = λ q l k. subst (λ r. Holds r q) (sym (append-nil rows)) k;
       }
   among_steps key by (s ∷ ss) rows n g a =
@@ -168,8 +192,8 @@ module _ (scenario : Scenario) (law : RowLaw scenario) where
       ] refl
 
   -- delivery
-  one_good : (rows : List Row) (o : Outbound) (s : Site) → IsGood rows s → IsGood rows (delivered_one o s)
-  one_good rows o s g = either (IsGood rows) (o.to == number_of s.core) (accepted o s) s (record { order = g.order; holds = g.holds }) g
+  one_good : (rows : List Row) (o : Outbound) (s : Site) → FitsSender scenario o → IsGood rows s → IsGood rows (delivered_one o s)
+  one_good rows o s f g = either (IsGood rows) (o.to == number_of s.core) (accepted o s) s (record { order = g.order; holds = g.holds; home = g.home; arriving = all_inserted (FitsSender scenario) (on transfer_key key_cmp) o s.arriving f g.arriving }) g
 
   one_number : (o : Outbound) (s : Site) → number_of (delivered_one o s).core ≡ number_of s.core
   one_number o s = either (λ (y : Site). number_of y.core ≡ number_of s.core) (o.to == number_of s.core) (accepted o s) s refl refl
@@ -178,11 +202,11 @@ module _ (scenario : Scenario) (law : RowLaw scenario) where
   map_numbers o n [] a = tt
   map_numbers o n (s ∷ ss) a = (one_number o s ∙ a.0, map_numbers o (n + 1) ss a.1)
 
-  delivers : (rows : List Row) (os : List Outbound) (sites : List Site) → All (IsGood rows) sites → AreNumbered 0 sites → All (IsGood rows) (delivered os sites) × AreNumbered 0 (delivered os sites)
-  delivers rows [] sites g a = (g, a)
-  delivers rows (o ∷ os) sites g a =
-      delivers rows os (map (delivered_one o) sites)
-      (All-map (IsGood rows) (delivered_one o) sites (All-weaker (IsGood rows) (λ s. IsGood rows (delivered_one o s)) (λ s. one_good rows o s) sites g)) (map_numbers o 0 sites a)
+  delivers : (rows : List Row) (os : List Outbound) (sites : List Site) → All (FitsSender scenario) os → All (IsGood rows) sites → AreNumbered 0 sites → All (IsGood rows) (delivered os sites) × AreNumbered 0 (delivered os sites)
+  delivers rows [] sites f g a = (g, a)
+  delivers rows (o ∷ os) sites f g a =
+      delivers rows os (map (delivered_one o) sites) (All-tail (FitsSender scenario) o os f)
+      (All-map (IsGood rows) (delivered_one o) sites (All-weaker (IsGood rows) (λ s. IsGood rows (delivered_one o s)) (λ s. one_good rows o s (All-head (FitsSender scenario) o os f)) sites g)) (map_numbers o 0 sites a)
 
   -- a run
   record IsLawful (r : Run) : Type 0 where
@@ -204,7 +228,7 @@ module _ (scenario : Scenario) (law : RowLaw scenario) where
   stepped_lawful r (Some key) w h =
       let t : Stepped = handled_among key r.sites in
       let s : Steps r.rows 0 t = among_steps key (w key refl) r.sites r.rows 0 h.good h.numbers in
-      let d = delivers (r.rows ++ t.rows) t.sent t.sites s.good s.numbers in
+      let d = delivers (r.rows ++ t.rows) t.sent t.sites s.sent s.good s.numbers in
       record { each = each_append Meets [] r.rows t.rows h.each s.each; good = d.0; numbers = d.1 }
 
   after_lawful : (n : ℕ) (start : List Site) → IsLawful (record { sites = start; rows = [] }) → IsLawful (after scenario.horizon n start)
@@ -233,7 +257,18 @@ module _ (scenario : Scenario) (law : RowLaw scenario) where
             (ascends_lower (λ (x : ℕ × ActorSettings). x.0) 0 (length scenario.queues) (numbered_actors scenario) (omega arith) (ascends_enumerated (length scenario.queues) scenario.actors)));
       }
 
-  opening_order : (x : ℕ × QueueSettings) → IsInOrder scenario (opening_site scenario x).core
+  after_actors : (n : ℕ) (tasks : List TaskSettings) → length scenario.queues + length scenario.actors ≤ n → All (λ x. is_actor_of scenario x.0 ≡ false) (enumerate_from n tasks)
+  after_actors n [] l = All-nil (λ (x : ℕ × TaskSettings). is_actor_of scenario x.0 ≡ false)
+  after_actors n (t ∷ ts) l =
+      let late : nat_lt n (length scenario.queues + length scenario.actors) ≡ false = grind (arith, nat_tests, l) in
+      All-cons (λ (x : ℕ × TaskSettings). is_actor_of scenario x.0 ≡ false) (n, t) (enumerate_from (n + 1) ts) (ap (λ b. nat_le (length scenario.queues) n && b) late ∙ and-false (nat_le (length scenario.queues) n)) (after_actors (n + 1) ts (omega (arith, l)))
+
+  opening_tasks : (n : ℕ) → All (λ t. is_actor_of scenario t.number ≡ false) (map (opening_task scenario.seed) (filter (λ x. x.1.home == n) (numbered_tasks scenario)))
+  opening_tasks n =
+      All-map (λ (t : Task). is_actor_of scenario t.number ≡ false) (opening_task scenario.seed) (filter (λ x. x.1.home == n) (numbered_tasks scenario))
+      (All-filter (λ x. x.1.home == n) (λ (x : ℕ × TaskSettings). is_actor_of scenario x.0 ≡ false) (numbered_tasks scenario) (after_actors (length scenario.queues + length scenario.actors) scenario.tasks (omega arith)))
+
+  opening_order : (x : ℕ × QueueSettings) → IsInOrder scenario [] (opening_site scenario x).core
   opening_order (n, settings) =
       record {
         stocked = record { ordered = tt; given_out = All-nil (λ (m : Message). m.number < 0); entries = All-nil (λ (e : Entry). e.number < 0) };
@@ -241,14 +276,22 @@ module _ (scenario : Scenario) (law : RowLaw scenario) where
         actors =
             All-map (IsInformed n 0) (opening_actor scenario.seed) (filter (λ x. x.1.home == n) (numbered_actors scenario))
             (λ i e l. record { held = tt; done = tt; failed = tt });
+        polls = All-nil (IsPolled scenario []);
+        tasks = opening_tasks n;
       }
+
+  no_actor : (n : ℕ) (q : QueueSettings) → slice_get scenario.queues n ≡ Some q → is_actor_of scenario n ≡ false
+  no_actor n q e =
+      let inside : n < length scenario.queues = slice_get_within scenario.queues n q e in
+      let before : nat_le (length scenario.queues) n ≡ false = grind (arith, nat_tests, inside) in
+      ap (λ b. b && nat_lt n (length scenario.queues + length scenario.actors)) before
 
   opens : (n : ℕ) (queues : List QueueSettings) → ((i : ℕ) (q : QueueSettings) → slice_get queues i ≡ Some q → slice_get scenario.queues (n + i) ≡ Some q) → All (IsGood []) (map (opening_site scenario) (enumerate_from n queues)) × AreNumbered n (map (opening_site scenario) (enumerate_from n queues))
   opens n [] f = (All-nil (IsGood []), tt)
   opens n (q ∷ qs) f =
       let rest = opens (n + 1) qs (λ i x e. let same : n + 1 + i ≡ n + suc i = omega arith in subst (λ k. slice_get scenario.queues k ≡ Some x) (sym same) (f (suc i) x e)) in
       let own : slice_get scenario.queues n ≡ Some q = let same : n + 0 ≡ n = omega arith in subst (λ k. slice_get scenario.queues k ≡ Some q) same (f 0 q refl) in
-      (All-cons (IsGood []) _ _ (record { order = opening_order (n, q); holds = law.opens n q own }) rest.0, (refl, rest.1))
+      (All-cons (IsGood []) _ _ (record { order = opening_order (n, q); holds = law.opens n q own; home = no_actor n q own; arriving = All-nil (FitsSender scenario) }) rest.0, (refl, rest.1))
 
   run_lawful : (r : Run) → IsRunOf scenario r → IsLawful r
   run_lawful r is =
@@ -265,14 +308,14 @@ module _ (scenario : Scenario) (law : RowLaw scenario) where
 -- what a law says of each row, by its move
 pub every_row_by :
     (s : Scenario) (law : RowLaw s) (P : List Row → Row → Type 0)
-    → ((rows : List Row) (key : Key) (q : Queue) (r : Row) (p : Queue) → Move key q r p → IsBehind s rows q r p → IsStocked q → law.Holds rows q → law.Holds (rows ++ r ∷ []) p → P rows r)
+    → ((rows : List Row) (key : Key) (q : Queue) (r : Row) (p : Queue) → IsNow s key q → Move key q r p → IsBehind s rows q r p → IsStocked q → law.Holds rows q → law.Holds (rows ++ r ∷ []) p → P rows r)
     → (r : Run) → IsRunOf s r → EachRow r.rows P
 every_row_by s law P meets r is =
     every_row s
     (record {
       Holds = law.Holds;
       Meets = P;
-      moves = λ rows key q x p by m g k h. let after = (law.moves rows key q x p by m g k h).1 in (meets rows key q x p m g k h after, after);
+      moves = λ rows key q x p by m g k h. let after = (law.moves rows key q x p by m g k h).1 in (meets rows key q x p by m g k h after, after);
       apart = law.apart;
       opens = law.opens;
     }) r is

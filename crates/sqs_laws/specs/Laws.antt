@@ -1,7 +1,7 @@
 -- The rules of SQS as laws of the log: of its rows, in order, and of the settings of its scenario, and of nothing
 -- else.
 use Rattle.std.specs.List.{range_with_len}
-use Rattle.std.specs.Prelude.{All, Bool, IsTrue, List, None, Some, count_by, false, flat_map, length, map, true, if◌then◌else◌, nat_le, nat_lt, not, slice_get, ℕ, ◌&&◌, [], ◌+◌, ◌++◌, ◌-◌, ◌<◌, ◌==◌, ◌∷◌, ◌≡◌, ◌≤◌, ◌⊎◌, ◌||◌}
+use Rattle.std.specs.Prelude.{All, Bool, IsTrue, List, None, Some, count_by, false, flat_map, length, map, true, if◌then◌else◌, nat_le, nat_lt, not, slice_get, ℕ, ◌&&◌, [], ◌*◌, ◌+◌, ◌++◌, ◌-◌, ◌<◌, ◌==◌, ◌∷◌, ◌≡◌, ◌≤◌, ◌⊎◌, ◌||◌, Option}
 use Rattle.sim_clock.specs.declared.refusal.Refusal.TheVariants as refusals
 use Rattle.sqs_message.specs.declared.ids.MessageId.{MessageId}
 use Rattle.sqs_message.specs.declared.ids.Origin.{Origin}
@@ -22,8 +22,8 @@ use Rattle.sqs_model.specs.declared.finals.FinalMessage.{FinalMessage}
 use Rattle.sqs_model.specs.declared.finals.FinalTransfer.{FinalTransfer}
 use Rattle.sqs_model.specs.Longest.{deduplication_interval}
 use Rattle.sqs_model.specs.Scenario.{Scenario, least_latency}
-use Rattle.sqs_laws.specs.Sends.{Given, GivesAs, IsByCall, IsSender, WasGiven, key_given}
-use Rattle.sqs_laws.specs.Words.{EachNaming, EachRow, arrives_at, came_by, changed, comes, comings, flight, flying, goes_to, has_left, in_flight_at, is_change, is_delete, is_gone, is_in_flight, is_move, is_redrive, is_release, is_repeat, is_send, may_follow, origin_of, received, sent_by, that_stay, times}
+use Rattle.sqs_laws.specs.Sends.{AsksFor, Given, GivesAs, IsByCall, IsSender, WasGiven, delay_given, key_given, milliseconds_or}
+use Rattle.sqs_laws.specs.Words.{EachNaming, EachRow, arrives_at, came_by, changed, comes, comings, flight, flying, goes_to, has_left, in_flight_at, is_change, is_delete, is_gone, is_in_flight, is_move, is_redrive, is_release, is_repeat, is_send, may_follow, origin_of, received, sent_by, that_stay, times, touches, was_released}
 
 -- The end is the end. The messages that come to a queue are numbered from 0 on, and no row names one before it comes.
 -- Once it was deleted, has expired, or left for another queue, only answers gone and repeat and a consumer's fail and
@@ -169,6 +169,63 @@ pub record Repeats (s : Scenario) (rows : List Row) : Type 0 where
   pub fifo : EachRow rows (λ before r. IsTrue (is_repeat r.answer) → IsTrue (fifo_at s r))
   pub recent : EachRow rows (λ before r. IsTrue (is_repeat r.answer) → RepeatsRecent s before r)
 
+-- whether a number is that of an actor
+abbrev pub is_actor_of : Scenario → ℕ → Bool
+is_actor_of s n = nat_le (length s.queues) n && nat_lt n (length s.queues + length s.actors)
+
+-- a message was sent to its queue by a row, or arrived from an actor, which forwarded another one
+abbrev pub was_sent : Scenario → Row → Bool
+was_sent s by = is_send by.kind || is_actor_of s by.agent
+
+-- a message came to its queue by a row, with this delay: of what was sent it is the one given, and else the queue's
+pub record CameWith (s : Scenario) (rows : List Row) (m : MessageId) (by : Row) (delay : ℕ) : Type 0 where
+  pub queue : QueueSettings
+  pub settings : slice_get s.queues m.site ≡ Some queue
+  pub came : came_by m rows ≡ Some by
+  pub sent : IsTrue (is_send by.kind) → (x : Given) × GivesAs s by.agent by.key.at x × (delay ≡ delay_given queue x)
+  pub arrived : is_send by.kind ≡ false → delay ≡ queue.delay
+
+-- a message was sent or forwarded with a delay, and is neither released yet nor gone
+pub record IsDelayed (s : Scenario) (rows : List Row) (m : MessageId) (by : Row) (delay : ℕ) : Type 0 where
+  pub sent : IsTrue (was_sent s by)
+  pub came : CameWith s rows m by delay
+  pub some : 0 < delay
+  pub waits : was_released m rows ≡ false
+  pub there : has_left m rows ≡ false
+
+-- Delays. A message that was sent or forwarded is not received, changed, released, redriven or moved before its delay
+-- is over. What is released and was not in flight is so exactly at the end of its delay, once. While a delay goes on
+-- its queue has no row from after its end, and it goes on past the horizon if it does so at the end of the log.
+pub record Delays (s : Scenario) (rows : List Row) : Type 0 where
+  pub over : EachNaming rows (λ before r m. IsTrue (touches r)
+      → (by : Row) (delay : ℕ) → CameWith s before m by delay → IsTrue (was_sent s by)
+      → by.key.at + delay ≤ r.key.at)
+  pub ends : EachNaming rows (λ before r m. IsTrue (is_release r.kind) → flying m before ≡ false
+      → (by : Row) (delay : ℕ) → CameWith s before m by delay
+      → (was_released m before ≡ false) × (0 < delay) × (r.key.at ≡ by.key.at + delay))
+  pub goes_on : EachRow rows (λ before r. (m : MessageId) (by : Row) (delay : ℕ)
+      → m.site ≡ r.queue → IsDelayed s before m by delay → r.key.at ≤ by.key.at + delay)
+  pub at_last : (m : MessageId) (by : Row) (delay : ℕ) → IsDelayed s rows m by delay → s.horizon < by.key.at + delay
+
+-- when the visibility timeout ends that a receive or a change began; that of a receive is asked for, or the queue's
+pub record EndsAt (s : Scenario) (f : Row) (end : ℕ) : Type 0 where
+  pub by_receive : IsTrue (received f) → (q : QueueSettings) × (timeout : Option ℕ)
+      × (slice_get s.queues f.queue ≡ Some q) × AsksFor s f.agent f.key.at timeout
+      × (end ≡ f.key.at + milliseconds_or q.visibility timeout)
+  pub by_change : IsTrue (changed f) → (seconds : ℕ) × (f.detail ≡ details.Timeout seconds)
+      × (end ≡ f.key.at + 1000 * seconds)
+
+-- Releases. A message in flight is released, or leaves for the dead-letter queue, exactly at the end of the timeout of
+-- its last receive or change. While it is in flight its queue has no row from after that, and at the end of the log it
+-- ends past the horizon.
+pub record Releases (s : Scenario) (rows : List Row) : Type 0 where
+  pub ends : EachNaming rows (λ before r m. IsTrue (is_release r.kind || is_redrive r.kind)
+      → (f : Row) → flight m before ≡ Some f → EndsAt s f r.key.at)
+  pub goes_on : EachRow rows (λ before r. (m : MessageId) (f : Row) → m.site ≡ r.queue → flight m before ≡ Some f
+      → (end : ℕ) × EndsAt s f end × (r.key.at ≤ end))
+  pub at_last : (m : MessageId) (q : QueueSettings) (f : Row) → slice_get s.queues m.site ≡ Some q
+      → flight m rows ≡ Some f → (end : ℕ) × EndsAt s f end × (s.horizon < end)
+
 -- Time. Rows are in the order of time, none after the horizon.
 pub record InTime (s : Scenario) (rows : List Row) : Type 0 where
   pub order : EachRow rows (λ before r. All (λ x. x.key.at ≤ r.key.at) before)
@@ -185,6 +242,8 @@ pub record KeepsTheRules (s : Scenario) (rows : List Row) : Type 0 where
   pub sends : Sends s rows
   pub fifo : FifoOrder s rows
   pub repeats : Repeats s rows
+  pub delays : Delays s rows
+  pub releases : Releases s rows
   pub in_time : InTime s rows
 
 -- What is left. The final queues have just the messages that came to a queue and have not left it, queue by queue in

@@ -1,6 +1,6 @@
--- What actors give to what they send: a body, a group and a deduplication id.
+-- What actors give to what they send: a body, a delay, a group and a deduplication id; and what receives ask for.
 use Rattle.std.specs.Fmt.{decimal}
-use Rattle.std.specs.Prelude.{List, None, Option, Some, length, slice_get, suc, zero, ℕ, ◌+◌, ◌-◌, ◌≡◌}
+use Rattle.std.specs.Prelude.{List, None, Option, Some, length, slice_get, suc, zero, ℕ, ◌*◌, ◌+◌, ◌-◌, ◌≡◌, ◌≤◌}
 use Rattle.sim_engine.specs.Members.{In}
 use Rattle.sqs_message.specs.declared.calls.Call.{Call}
 use Rattle.sqs_message.specs.declared.calls.Call.TheVariants as calls
@@ -14,6 +14,7 @@ use Rattle.sqs_model.specs.declared.agents.Role.TheVariants.{Consumer, Producer,
 use Rattle.sqs_message.specs.Bodies.{filled}
 use Rattle.sqs_redrive.specs.declared.settings.Kind.{Kind}
 use Rattle.sqs_redrive.specs.declared.settings.Kind.TheVariants.{Fifo, Standard}
+use Rattle.sqs_redrive.specs.declared.settings.QueueSettings.{QueueSettings}
 use Rattle.sqs_redrive.specs.declared.settings.Scope.{Scope}
 use Rattle.sqs_redrive.specs.declared.settings.Scope.TheVariants as scopes
 use Rattle.sqs_model.specs.Actor.{group_of, id_given}
@@ -22,15 +23,16 @@ use Rattle.sqs_model.specs.Draw.{Draws, drawn_time}
 use Rattle.sqs_model.specs.Scenario.{Scenario, opening_draws}
 use Rattle.sqs_laws.specs.Words.{sent_by}
 
--- what a send gives: a body, a group and a deduplication id
+-- what a send gives: a body, a delay of its own in seconds, a group and a deduplication id
 pub record Given : Type 0 where
   pub body : List ℕ
+  pub delay : Option ℕ
   pub group : Option (List ℕ)
   pub id : Option (List ℕ)
 
 -- what a call gives, if it is a send
 abbrev pub given_in : Call → Option Given
-given_in (calls.Send body delay group id) = Some (record { body = body; group = group; id = id })
+given_in (calls.Send body delay group id) = Some (record { body = body; delay = delay; group = group; id = id })
 given_in _ = None
 
 -- when a producer sends a message, and its draws then: after a gap, drawn behind the group of the one before it
@@ -48,7 +50,12 @@ sending opening p (suc n) = next_sending p n (sending opening p n)
 -- what it gives then
 abbrev pub message_given : ProducerSettings → ℕ → ℕ → Draws → Given
 message_given p agent n draws =
-    record { body = filled (decimal n) p.body; group = (group_of p.groups n draws).0; id = id_given p agent n }
+    record {
+      body = filled (decimal n) p.body;
+      delay = p.delay;
+      group = (group_of p.groups n draws).0;
+      id = id_given p agent n;
+    }
 
 -- what an actor of a role sends at a moment gives: a script's what its call gives, a producer's what its message does
 abbrev pub GivesAt : Draws → Role → ℕ → Given → Type 0
@@ -57,6 +64,19 @@ GivesAt opening (Producer p) at x =
     (n : ℕ) × ((sending opening p n).0 ≡ at) × (message_given p opening.agent n (sending opening p n).1 ≡ x)
 GivesAt opening (Consumer c) at x = ⊥
 GivesAt opening (Scaler s) at x = ⊥
+
+-- the milliseconds of a time in seconds, or these if none is given
+abbrev pub milliseconds_or : ℕ → Option ℕ → ℕ
+milliseconds_or other None = other
+milliseconds_or other (Some seconds) = 1000 * seconds
+
+-- the delay in milliseconds of what is given to a queue: its own at a standard queue, and else the queue's
+abbrev pub delay_given : QueueSettings → Given → ℕ
+delay_given q x =
+    elim q.kind as (λ _. ℕ) [
+      | Standard hosts sampled ↦ milliseconds_or q.delay x.delay
+      | Fifo content scope ↦ q.delay
+    ]
 
 -- a script or a producer, which alone send
 abbrev pub IsSender : Role → Type 0
@@ -70,6 +90,27 @@ abbrev pub GivesAs : Scenario → ℕ → ℕ → Given → Type 0
 GivesAs s agent at x =
     (a : ActorSettings) × (slice_get s.actors (agent - length s.queues) ≡ Some a)
     × GivesAt (opening_draws s.seed agent) a.role at x
+
+-- a visibility timeout that a receive of an actor asks for: that of such a call of a script, or the consumer's
+abbrev pub AsksBy : (ScriptCall → Type 0) → Role → Option ℕ → Type 0
+AsksBy Such (Script cs) timeout = (c : ScriptCall) × In cs c × Such c
+AsksBy Such (Consumer c) timeout = timeout ≡ c.timeout
+AsksBy Such (Producer p) timeout = ⊥
+AsksBy Such (Scaler s) timeout = ⊥
+
+-- a call is a receive with this timeout that may give messages at a moment: it was made by then, and waits until then
+pub record MayGiveAt (at : ℕ) (timeout : Option ℕ) (c : ScriptCall) : Type 0 where
+  pub most : ℕ
+  pub wait : ℕ
+  pub call : c.call ≡ calls.Receive most wait timeout
+  pub made : c.at ≤ at
+  pub waits : at ≤ c.at + 1000 * wait
+
+-- a visibility timeout that the receive asks for by which the actor of this number gets messages at a moment
+abbrev pub AsksFor : Scenario → ℕ → ℕ → Option ℕ → Type 0
+AsksFor s agent at timeout =
+    (a : ActorSettings) × (slice_get s.actors (agent - length s.queues) ≡ Some a)
+    × AsksBy (MayGiveAt at timeout) a.role timeout
 
 -- a message was sent to its queue with this group
 abbrev pub WasGiven : Scenario → List Row → MessageId → List ℕ → Type 0

@@ -100,6 +100,10 @@ goes_to n r = sends_on r.kind && tells_queue n r.detail
 abbrev pub arrives_at : ℕ → Row → Bool
 arrives_at n r = is_arrive r.kind && r.queue == n
 
+-- a message is received, changed, released, redriven or moved
+abbrev pub touches : Row → Bool
+touches r = received r || changed r || is_release r.kind || is_redrive r.kind || is_move r.kind
+
 -- a row names a message
 abbrev pub names : MessageId → Row → Bool
 names m r = same_id (Some m) r.message
@@ -123,6 +127,10 @@ times m rows = count_by (λ r. received r && names m r) rows
 -- whether a message has left its queue
 abbrev pub has_left : MessageId → List Row → Bool
 has_left m rows = list_any (λ r. leaves r && names m r) rows
+
+-- whether a message was released since it came
+abbrev pub was_released : MessageId → List Row → Bool
+was_released m rows = list_any (λ r. is_release r.kind && names m r) rows
 
 -- the origin that the row tells by which a message came
 abbrev pub origin_of : MessageId → List Row → Option Origin

@@ -2,7 +2,7 @@
 -- events has its case here, and a law that is an instance of the records below needs none of its own.
 use Rattle.std.specs.List.{list_any}
 use Rattle.std.specs.Prelude.{Bool, Err, List, None, Ok, Option, Result, Some, [], false, find, suc, true, unwrap_or, zero, ℕ, ◌-◌, ◌/◌, ◌+◌, ◌==◌, ◌∷◌, ◌≡◌}
-use Rattle.std.proofs.Common.{refl, subst, ◌∙◌}
+use Rattle.std.proofs.Common.{refl, subst, true≢false, ◌∙◌}
 use Rattle.std.proofs.lemmas.Bool.{eqb-true}
 use Rattle.sim_clock.specs.declared.key.Class.{Class}
 use Rattle.sim_clock.specs.declared.key.Class.TheVariants as classes
@@ -10,6 +10,7 @@ use Rattle.sim_clock.specs.declared.key.Key.{Key}
 use Rattle.sim_clock.specs.declared.refusal.Refusal.{Refusal}
 use Rattle.sim_clock.specs.declared.refusal.Refusal.TheVariants as refusals
 use Rattle.sim_clock.specs.Firsts.{without}
+use Rattle.sim_engine.specs.Members.{Each}
 use Rattle.sqs_message.specs.declared.ids.MessageId.{MessageId}
 use Rattle.sqs_message.specs.declared.ids.Origin.{Origin}
 use Rattle.sqs_message.specs.declared.ids.Receipt.{Receipt}
@@ -131,9 +132,14 @@ pub record CallLaw (key : Key) : Type 1 where
   -- what holds of an actor after its turn among the actors of its site, and of its act
   pub Stands : Queue → List Actor → Actor → Type 0
   pub May : Core → Actor → Act → Type 0
+  -- a receive with a timeout that an actor asks for, or that waits
+  pub Asks : Past → ℕ → Option ℕ → Type 0
+  pub later : (p : Past) (e : Effect) (agent : ℕ) (timeout : Option ℕ) → Asks p agent timeout → Asks (after p e) agent timeout
+  pub asked : (p : Past) (a : Actor) (c : Core) (max wait : ℕ) (timeout : Option ℕ) → Stands c.queue c.actors a → May c a (acts.Receive max wait timeout) → At p c → Asks p a.number timeout
+  pub waiting : (p : Past) (c : Core) → At p c → Each (λ x. Asks p x.actor x.timeout) c.polls
   -- calls of a queue, each with its rows
   pub gives :
-      (p : Past) (c : Core) (agent max : ℕ) (timeout : Option ℕ) (set : ℕ) → At p c
+      (p : Past) (c : Core) (agent max : ℕ) (timeout : Option ℕ) (set : ℕ) → Asks p agent timeout → At p c
       → Goes p (given key c agent timeout (give_most c.queue key.at max timeout set)) × Hears (given key c agent timeout (give_most c.queue key.at max timeout set)).core (give_most c.queue key.at max timeout set).1
   pub changes : (p : Past) (a : Actor) (c : Core) (text : List ℕ) (timeout : ℕ) → At p c → Goes p (change_made key a c text timeout (read_receipt text)).effect
   pub deletes : (p : Past) (a : Actor) (c : Core) (text : List ℕ) → At p c → Goes p (delete_made key a c text (read_receipt text)).effect
@@ -150,11 +156,13 @@ pub record CallLaw (key : Key) : Type 1 where
       (p : Past) (n : ℕ) (c : Core) (a : Actor) (w : Answer) → actor_numbered n c ≡ Some a → IsTold Hears Woken Acted c n w → At p c
       → At p (with_actor c (next a key.at w).1) × Stands c.queue (with_actor c (next a key.at w).1).actors (next a key.at w).1 × May (with_actor c (next a key.at w).1) (next a key.at w).1 (next a key.at w).0
   pub acted : (p : Past) (a : Actor) (c : Core) (x : Act) → IsDone x → Stands c.queue c.actors a → May c a x → At p c → Goes p (act_made key a c x).effect → Acted (act_made key a c x).effect.core a.number
-  pub polls : (p : Past) (a : Actor) (c : Core) (max wait : ℕ) (timeout : Option ℕ) → (wait == 0) ≡ false → Stands c.queue c.actors a → At p c → At p (with_poll key a c max wait timeout)
+  pub polls :
+      (p : Past) (a : Actor) (c : Core) (max wait : ℕ) (timeout : Option ℕ) → (wait == 0) ≡ false → Stands c.queue c.actors a → May c a (acts.Receive max wait timeout)
+      → IsNameless key c (receive_row key c a.number answers.Wait) → At p c → Goes p (says (with_poll key a c max wait timeout) (receive_row key c a.number answers.Wait))
   pub serves : (p : Past) (a : Actor) (c : Core) (id : MessageId) (r : Receipt) (failed : Bool) (forwards : List Outbound) → May c a (acts.Serve id r failed forwards) → At p c → Goes p (serve_made key a c id r failed forwards).effect
 
 module _ (key : Key) (law : CallLaw key) where
-  open law use {Past, At, Goes, Hears, Woken, Acted, after, done, joins, quiet, nothing, Stands, May}
+  open law use {Past, At, Goes, Hears, Woken, Acted, after, done, joins, quiet, nothing, Stands, May, Asks}
 
   abbrev pub Told : Core → ℕ → Answer → Type 0
   Told = IsTold Hears Woken Acted
@@ -177,32 +185,32 @@ module _ (key : Key) (law : CallLaw key) where
   plainly : (p : Past) (m : Made) → IsBare m.answer → Goes p m.effect → Makes p m
   plainly p m b g = record { goes = g; told = bare_heard Hears law.hears_none m.effect.core m.answer b }
 
-  none_goes : (p : Past) (a : Actor) (c : Core) (max wait : ℕ) (timeout : Option ℕ) → Stands c.queue c.actors a → At p c → Makes p (receive_none key a c max wait timeout)
-  none_goes p a c max wait timeout s h =
+  none_goes : (p : Past) (a : Actor) (c : Core) (max wait : ℕ) (timeout : Option ℕ) → Stands c.queue c.actors a → ((wait == 0) ≡ false → May c a (acts.Receive max wait timeout)) → At p c → Makes p (receive_none key a c max wait timeout)
+  none_goes p a c max wait timeout s m h =
       either_by (Makes p) (wait == 0) (made (says c (receive_row key c a.number answers.Empty)) (told_by.Got []))
       (made (says (with_poll key a c max wait timeout) (receive_row key c a.number answers.Wait)) told_by.Waiting)
       (λ e. plainly p _ tt (says_only p c _ (record { at_key = refl; at_site = refl; silent = λ o. refl; nameless = refl; kind = tt }) h))
-      (λ e. plainly p _ tt (says_so p c (with_poll key a c max wait timeout) _ (record { at_key = refl; at_site = refl; silent = λ o. refl; nameless = refl; kind = tt }) h (law.polls p a c max wait timeout e s h)))
+      (λ e. plainly p _ tt (law.polls p a c max wait timeout e s (m e) (record { at_key = refl; at_site = refl; silent = λ o. refl; nameless = refl; kind = tt }) h))
 
   pub some_goes :
-      (p : Past) (a : Actor) (c : Core) (max wait : ℕ) (timeout : Option ℕ) (x : Queue × List Got) → Stands c.queue c.actors a → At p c
+      (p : Past) (a : Actor) (c : Core) (max wait : ℕ) (timeout : Option ℕ) (x : Queue × List Got) → Stands c.queue c.actors a → ((wait == 0) ≡ false → May c a (acts.Receive max wait timeout)) → At p c
       → Goes p (given key c a.number timeout x) × Hears (given key c a.number timeout x).core x.1 → Makes p (receive_some key a c max wait timeout x.0 x.1)
-  some_goes p a c max wait timeout (q, []) s h k = none_goes p a c max wait timeout s h
-  some_goes p a c max wait timeout (q, g ∷ gs) s h k = record { goes = k.0; told = k.1 }
+  some_goes p a c max wait timeout (q, []) s m h k = none_goes p a c max wait timeout s m h
+  some_goes p a c max wait timeout (q, g ∷ gs) s m h k = record { goes = k.0; told = k.1 }
 
-  receive_goes : (p : Past) (a : Actor) (c d : Core) (max wait : ℕ) (timeout : Option ℕ) (set : ℕ) (short : Bool) → d.queue ≡ c.queue → Stands d.queue d.actors a → At p c → At p d → Makes p (receive_made key a c d max wait timeout (receive d.queue key.at max timeout set short))
-  receive_goes p a c d max wait timeout set short e s h k =
+  receive_goes : (p : Past) (a : Actor) (c d : Core) (max wait : ℕ) (timeout : Option ℕ) (set : ℕ) (short : Bool) → d.queue ≡ c.queue → Stands d.queue d.actors a → ((wait == 0) ≡ false → May d a (acts.Receive max wait timeout)) → Asks p a.number timeout → At p c → At p d → Makes p (receive_made key a c d max wait timeout (receive d.queue key.at max timeout set short))
+  receive_goes p a c d max wait timeout set short e s m q h k =
       receive_by (λ x. Makes p (receive_made key a c d max wait timeout x)) d.queue key.at max timeout set short
       (λ r. plainly p _ tt (says_only p c _ (record { at_key = refl; at_site = refl; silent = λ o. refl; nameless = refl; kind = tt }) h))
-      (some_goes p a d max wait timeout (give_most d.queue key.at max timeout set) s k (law.gives p d a.number max timeout set k))
+      (some_goes p a d max wait timeout (give_most d.queue key.at max timeout set) s m k (law.gives p d a.number max timeout set q k))
 
-  as_goes : (k : Kind) (p : Past) (a : Actor) (c : Core) (max wait : ℕ) (timeout : Option ℕ) → Stands c.queue c.actors a → At p c → Makes p (receive_as k key a c max wait timeout)
-  as_goes (Fifo content scope) p a c max wait timeout s h = receive_goes p a c c max wait timeout (all_hosts c.queue.settings.kind) false refl s h h
-  as_goes (Standard hosts sampled) p a c max wait timeout s h =
+  as_goes : (k : Kind) (p : Past) (a : Actor) (c : Core) (max wait : ℕ) (timeout : Option ℕ) → Stands c.queue c.actors a → May c a (acts.Receive max wait timeout) → At p c → Makes p (receive_as k key a c max wait timeout)
+  as_goes (Fifo content scope) p a c max wait timeout s m h = receive_goes p a c c max wait timeout (all_hosts c.queue.settings.kind) false refl s (λ _. m) (law.asked p a c max wait timeout s m h) h h
+  as_goes (Standard hosts sampled) p a c max wait timeout s m h =
       let drawn : ℕ × Draws = drawn_uniform 0 (hosts - 1) c.draws in
       either (Makes p) (wait == 0) (short_poll key a c max timeout hosts sampled drawn) (long_poll key a c max wait timeout)
-      (receive_goes p a c (record c { draws = drawn.1 }) max 0 timeout _ true refl s h (law.draws p c (hosts - 1) h))
-      (receive_goes p a c c max wait timeout (all_hosts c.queue.settings.kind) false refl s h h)
+      (receive_goes p a c (record c { draws = drawn.1 }) max 0 timeout _ true refl s (λ e. absurd (true≢false e)) (law.asked p a c max wait timeout s m h) h (law.draws p c (hosts - 1) h))
+      (receive_goes p a c c max wait timeout (all_hosts c.queue.settings.kind) false refl s (λ _. m) (law.asked p a c max wait timeout s m h) h h)
 
   start_goes : (p : Past) (a : Actor) (c : Core) (task : ℕ) (o : Option Task) → task_numbered task c ≡ o → At p c → Makes p (start_made key a c task o)
   start_goes p a c task None e h = plainly p _ tt (nothing p c h)
@@ -241,7 +249,7 @@ module _ (key : Key) (law : CallLaw key) where
   pub act_goes : (p : Past) (a : Actor) (c : Core) (x : Act) → Stands c.queue c.actors a → May c a x → At p c → Makes p (act_made key a c x)
   unfolding act_made
   act_goes p a c (acts.Send body delay group id) s m h = plainly p _ tt (law.sends p a c body delay group id m h)
-  act_goes p a c (acts.Receive max wait timeout) s m h = as_goes c.queue.settings.kind p a c max wait timeout s h
+  act_goes p a c (acts.Receive max wait timeout) s m h = as_goes c.queue.settings.kind p a c max wait timeout s m h
   act_goes p a c (acts.Delete text) s m h = deletes_goes p a c text (read_receipt text) (law.deletes p a c text h)
   act_goes p a c (acts.Change text timeout) s m h = changes_goes p a c text timeout (read_receipt text) (law.changes p a c text timeout h)
   act_goes p a c (acts.Prolong text timeout) s m h =
@@ -310,21 +318,31 @@ pub record DueLaw (key : Key) (law : CallLaw key) : Type 1 where
 
 -- the answers to waiting polls, where a poll that leaves keeps the law
 module _ (key : Key) (law : CallLaw key) (answers : (p : law.Past) (c : Core) → law.At p c → law.At p (without_poll c)) where
-  open law use {Past, At, Goes}
+  open law use {Past, At, Goes, Asks, after, done, joins}
 
-  when_goes : (b : Bool) (poll : Poll) (others : Core → Effect) → Follows key law others → Follows key law (answer_when b key poll others)
-  when_goes true poll others f p c h =
+  abbrev AreAsked : Past → List Poll → Type 0
+  AreAsked p polls = Each (λ x. Asks p x.actor x.timeout) polls
+
+  asked_later : (p : Past) (e : Effect) (polls : List Poll) → AreAsked p polls → AreAsked (after p e) polls
+  asked_later p e [] a = tt
+  asked_later p e (x ∷ xs) a = (law.later p e x.actor x.timeout a.0, asked_later p e xs a.1)
+
+  abbrev Answers : (Core → Effect) → List Poll → Type 0
+  Answers f polls = (p : Past) (c : Core) → AreAsked p polls → At p c → Goes p (f c)
+
+  when_goes : (b : Bool) (poll : Poll) (polls : List Poll) → Answers (answer_polls key polls) polls → Answers (answer_when b key poll (answer_polls key polls)) (poll ∷ polls)
+  when_goes true poll polls f p c a h =
       let e : Effect = poll_answered key poll c (poll_given key poll c.queue) in
-      follows key law p e others (λ q k. f q e.core k)
-      (poll_goes key law p poll c (poll_given key poll c.queue) (law.gives p (without_poll c) poll.actor poll.max poll.timeout (all_hosts c.queue.settings.kind) (answers p c h)))
-  when_goes false poll others f p c h = law.nothing p c h
+      let one : Goes p e = poll_goes key law p poll c (poll_given key poll c.queue) (law.gives p (without_poll c) poll.actor poll.max poll.timeout (all_hosts c.queue.settings.kind) a.0 (answers p c h)) in
+      joins p e (answer_polls key polls) one (f (after p e) e.core (asked_later p e polls a.1) (done p e one))
+  when_goes false poll polls f p c a h = law.nothing p c h
 
-  pub polls_go : (polls : List Poll) → Follows key law (answer_polls key polls)
-  polls_go [] p c h = law.nothing p c h
-  polls_go (poll ∷ polls) p c h = when_goes (can_give c.queue) poll (answer_polls key polls) (polls_go polls) p c h
+  pub polls_go : (polls : List Poll) → Answers (answer_polls key polls) polls
+  polls_go [] p c a h = law.nothing p c h
+  polls_go (poll ∷ polls) p c a h = when_goes (can_give c.queue) poll polls (polls_go polls) p c a h
 
   pub polled : (p : Past) (e : Effect) → Goes p e → Goes p (with_polls key e)
-  polled p e h = follows key law p e (λ c. answer_polls key c.polls c) (λ q k. polls_go e.core.polls q e.core k) h
+  polled p e h = joins p e (λ c. answer_polls key c.polls c) h (polls_go e.core.polls (after p e) e.core (law.waiting (after p e) e.core (done p e h)) (done p e h))
 
 -- what is due, by its class
 module _ (key : Key) (law : CallLaw key) (due : DueLaw key law) where

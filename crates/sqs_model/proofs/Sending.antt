@@ -18,7 +18,7 @@ IsForward (Move id group origin body) = ⊥
 IsForward (Forward id group body) = Unit {0}
 
 -- each of a list has what all have
-always_each : {A : Type 0} (P : A → Type 0) → ((x : A) → P x) → (xs : List A) → Each P xs
+pub always_each : {A : Type 0} (P : A → Type 0) → ((x : A) → P x) → (xs : List A) → Each P xs
 always_each P h [] = tt
 always_each P h (x ∷ xs) = (h x, always_each P h xs)
 

@@ -37,7 +37,7 @@ use Rattle.sqs_model.specs.Conditions.{IsOfPast, sqs_conditions}
 use Rattle.sqs_model.specs.Sqs.{sqs}
 use Rattle.sim_engine.specs.Simulated.{IsSimulated}
 
-each_all : {A : Type 0} (P : A → Type 0) (xs : List A) → All P xs → Each P xs
+pub each_all : {A : Type 0} (P : A → Type 0) (xs : List A) → All P xs → Each P xs
 each_all P [] h = tt
 each_all P (x ∷ xs) h = (All-head P x xs h, each_all P xs (All-tail P x xs h))
 

@@ -24,7 +24,7 @@ use Rattle.sqs_model.specs.declared.acts.Act.{Act}
 use Rattle.sqs_model.specs.declared.acts.Answer.{Answer}
 use Rattle.sqs_model.specs.declared.acts.Answer.TheVariants as told_by
 use Rattle.sqs_model.specs.Actor.{Actor, next}
-use Rattle.sqs_model.specs.Acts.{act_made, all_came_back, came_back, change_answered, change_made, change_row, delete_done, delete_made, forward_made, forward_row, forwards_made, given, got_row, receive_some, redrive_by, send_made, sends, serve_made, with_poll}
+use Rattle.sqs_model.specs.Acts.{act_made, all_came_back, came_back, change_answered, change_made, change_row, delete_done, delete_made, forward_made, forwards_made, given, got_row, receive_some, redrive_by, send_made, sends, serve_made, with_poll}
 use Rattle.sqs_model.specs.Arrive.{arrived}
 use Rattle.sqs_model.specs.Calls.{change, delete}
 use Rattle.sqs_model.specs.Draw.{drawn_uniform}
@@ -36,7 +36,7 @@ use Rattle.sqs_model.specs.Site.{Core, Effect, Poll, Site, actor_numbered, and_t
 use Rattle.sqs_model.specs.Step.{release_done, arrival_done, ends_at, handle_arrival, handle_class, handle_expiry, handle_step, handled, is_arrival, with_polls}
 use Rattle.sqs_model.specs.Task.{Task}
 use Rattle.sqs_model.proofs.Ledger.{marks}
-use Rattle.sqs_model.proofs.Sending.{Sends}
+use Rattle.sqs_model.proofs.Sending.{Sends, always_each}
 use Rattle.sqs_model.proofs.CallWalk as walk
 use Rattle.sqs_model.proofs.CallWalk.{CallLaw, DueLaw, IsTold}
 pub use Rattle.sqs_model.proofs.CallWalk.{effect_of}
@@ -179,7 +179,7 @@ module _ (key : Key) (law : TurnLaw key) where
   serves_by p a c id r true os s h = says_only p c _ (record { at_key = refl; at_site = refl; silent = λ o. refl }) h
   serves_by p a c id r false os s h = forwards_go a id os p c s h
 
-  -- the law by calls; what an answer tells is nothing to it
+  -- the law by calls; what an answer tells is nothing to it, nor who asks
   abbrev pub by_calls : CallLaw key
   by_calls =
       record {
@@ -195,7 +195,11 @@ module _ (key : Key) (law : TurnLaw key) where
         hears_none = λ c. tt;
         Woken = λ c n. Unit {0};
         Acted = λ c n. Unit {0};
-        gives = λ p c agent max timeout set h. (given_goes p c agent timeout (give_most c.queue key.at max timeout set) h (law.gives p c max timeout set h), tt);
+        Asks = λ p agent timeout. Unit {0};
+        later = λ p e agent timeout a. tt;
+        asked = λ p a c max wait timeout s m h. tt;
+        waiting = λ p c h. always_each (λ x. Unit {0}) (λ x. tt) c.polls;
+        gives = λ p c agent max timeout set a h. (given_goes p c agent timeout (give_most c.queue key.at max timeout set) h (law.gives p c max timeout set h), tt);
         changes = λ p a c text timeout h. changes_by p a c text timeout (read_receipt text) h;
         deletes = λ p a c text h. deletes_by p a c text (read_receipt text) h;
         sends = λ p a c body delay group id m h. law.sends p a c body delay group id h;
@@ -206,7 +210,7 @@ module _ (key : Key) (law : TurnLaw key) where
         May = λ c a x. Sends Sent x;
         turns = λ p n c a w e t h. law.turns p n c a w e h;
         acted = λ p a c x i s m h g. tt;
-        polls = law.polls;
+        polls = λ p a c max wait timeout e s m i h. quiet p [] [] c (with_poll key a c max wait timeout) (_ ∷ []) h (record { at_key = i.at_key; at_site = i.at_site; silent = i.silent }, tt) (law.polls p a c max wait timeout e s h);
         serves = λ p a c id r b os m h. serves_by p a c id r b os m h;
       }
 
@@ -221,7 +225,7 @@ module _ (key : Key) (law : TurnLaw key) where
   Follows f = (p : Past) (c : Core) → At p [] c → Goes p [] (f c)
 
   pub some_goes : (p : Past) (a : Actor) (c : Core) (max wait : ℕ) (timeout : Option ℕ) (x : Queue × List Got) → Stands c.actors a → At p [] c → Gives (At p) c timeout x → Goes p [] (receive_some key a c max wait timeout x.0 x.1).effect
-  some_goes p a c max wait timeout x s h k = (walk.some_goes key by_calls p a c max wait timeout x s h (given_goes p c a.number timeout x h k, tt)).goes
+  some_goes p a c max wait timeout x s h k = (walk.some_goes key by_calls p a c max wait timeout x s (λ _. tt) h (given_goes p c a.number timeout x h k, tt)).goes
 
   pub act_goes : (p : Past) (a : Actor) (c : Core) (x : Act) → Stands c.actors a → Sends Sent x → At p [] c → Goes p [] (act_made key a c x).effect
   act_goes p a c x s o h = (walk.act_goes key by_calls p a c x s o h).goes
@@ -258,7 +262,7 @@ IsDue key law due class c = Unit {0}
 
 module _ (key : Key) (law : TurnLaw key) (answers : (p : law.Past) (c : Core) → law.At p [] c → law.At p [] (without_poll c)) where
   pub polls_go : (polls : List Poll) → Follows key law (answer_polls key polls)
-  polls_go polls p c h = walk.polls_go key (by_calls key law) answers polls p c h
+  polls_go polls p c h = walk.polls_go key (by_calls key law) answers polls p c (always_each (λ x. Unit {0}) (λ x. tt) polls) h
 
   pub polled : (p : law.Past) (e : Effect) → law.Goes p [] e → law.Goes p [] (with_polls key e)
   polled p e h = walk.polled key (by_calls key law) answers p e h
