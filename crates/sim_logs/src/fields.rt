@@ -2,6 +2,7 @@
 //! printed again, and counts only if it is the same line.
 use crate::answers::{answer_named, kind_named};
 use crate::columns::{Columns, ReceiptForm};
+use crate::lines::has_quote;
 use crate::parts::{Numbers, agent, detail, message, number, receipt};
 use csv::{ErrorKind, ReaderBuilder, StringRecord};
 use sim_clock::{Class, Key};
@@ -22,24 +23,43 @@ struct Fields<'a> {
     detail: &'a str,
 }
 
+// The number of commas between the fields of a row.
+const COMMAS: usize = 7;
+
+// The places of the commas between the fields of a line without quotes, if there are so many.
+fn commas(line: &str) -> Option<[usize; COMMAS]> {
+    let mut places = [0; COMMAS];
+    let mut found = 0;
+    for (place, byte) in line.as_bytes().iter().enumerate() {
+        if *byte == b',' && found < COMMAS {
+            places[found] = place;
+            found += 1;
+        }
+        if found >= COMMAS {
+            return Some(places);
+        }
+    }
+    None
+}
+
+// What stands between two commas of a line, or behind the last one.
+#[inline(always)]
+fn between(line: &str, comma: usize, end: usize) -> Option<&str> {
+    line.get(comma.wrapping_add(1)..end)
+}
+
 // The fields of a line without quotes.
 fn split(line: &str) -> Option<Fields<'_>> {
-    let (at, rest) = line.split_once(',')?;
-    let (queue, rest) = rest.split_once(',')?;
-    let (agent, rest) = rest.split_once(',')?;
-    let (call, rest) = rest.split_once(',')?;
-    let (answer, rest) = rest.split_once(',')?;
-    let (message, rest) = rest.split_once(',')?;
-    let (receipt, detail) = rest.split_once(',')?;
+    let [first, second, third, fourth, fifth, sixth, last] = commas(line)?;
     Some(Fields {
-        at,
-        queue,
-        agent,
-        call,
-        answer,
-        message,
-        receipt,
-        detail,
+        at: line.get(..first)?,
+        queue: between(line, first, second)?,
+        agent: between(line, second, third)?,
+        call: between(line, third, fourth)?,
+        answer: between(line, fourth, fifth)?,
+        message: between(line, fifth, sixth)?,
+        receipt: between(line, sixth, last)?,
+        detail: between(line, last, line.len())?,
     })
 }
 
@@ -112,23 +132,31 @@ fn row_of_fields(
     Ok(Some(row))
 }
 
+// The row that the fields of a line with quotes give, if they give one. It is a call of its own,
+// since it is rare and takes much of the stack.
+#[cold]
+#[inline(never)]
+fn quoted_row(alloc: Global, line: &str, numbers: &Numbers) -> Result<Option<Row>, AllocError> {
+    let record = record_of(alloc, line)?;
+    match fields_of(&record) {
+        Some(fields) => row_of_fields(alloc, &fields, numbers),
+        None => Ok(None),
+    }
+}
+
 /// The row that the fields of a line give, if they give one.
 pub(crate) fn row_of(
     alloc: Global,
     line: &[u8],
     numbers: &Numbers,
 ) -> Result<Option<Row>, AllocError> {
-    let Ok(line) = str::from_utf8(line) else {
+    let Ok(text) = str::from_utf8(line) else {
         return Ok(None);
     };
-    if line.contains('"') {
-        let record = record_of(alloc, line)?;
-        return match fields_of(&record) {
-            Some(fields) => row_of_fields(alloc, &fields, numbers),
-            None => Ok(None),
-        };
+    if has_quote(line) {
+        return quoted_row(alloc, text, numbers);
     }
-    match split(line.strip_suffix('\n').unwrap_or(line)) {
+    match split(text.strip_suffix('\n').unwrap_or(text)) {
         Some(fields) => row_of_fields(alloc, &fields, numbers),
         None => Ok(None),
     }

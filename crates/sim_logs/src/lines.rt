@@ -19,8 +19,20 @@ fn read_on<R: BufRead>(log: &mut R, text: &mut Vec<u8>) -> Result<bool, LogFault
     Ok(count > 0)
 }
 
+/// Whether a text has a quote. All its bytes are looked at, which is faster than to stop at the first.
+pub(crate) fn has_quote(text: &[u8]) -> bool {
+    let mut found = false;
+    for byte in text {
+        found |= *byte == b'"';
+    }
+    found
+}
+
 // Whether quotes stand open at the end of a text.
 fn is_open(text: &[u8]) -> bool {
+    if !has_quote(text) {
+        return false;
+    }
     let quotes = text.iter().filter(|byte| **byte == b'"').count();
     quotes % 2 == 1
 }

@@ -5,6 +5,7 @@ pub mod Groups
 pub mod Comparing
 pub mod Figuring
 mod Marked
+mod Placed
 mod Named
 mod FiguresEnd
 pub mod Reporting

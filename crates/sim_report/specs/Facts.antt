@@ -1,9 +1,24 @@
 -- What the figures need of a row.
 use Rattle.std.specs.Prelude.{ℕ, nat_lt, Option}
 use Rattle.sqs_message.specs.declared.row.Row.{Row}
+use Rattle.sqs_message.specs.declared.row.RowAnswer.{RowAnswer}
+use Rattle.sqs_message.specs.declared.row.RowKind.{RowKind}
+use Rattle.sqs_formats.specs.Report.{column}
 use Rattle.sim_report.specs.declared.fact.Fact.{Fact}
+use Rattle.sim_report.specs.declared.fact.Saying.{Saying}
 use Rattle.sim_report.specs.Figures.{by_way, counted_as, flight_of, hold_of, is_own, number_of, own_receipt, use_of}
 use Rattle.sim_report.specs.Tally.{count_of}
+
+-- what a row of this kind with this answer says
+abbrev pub saying_of : RowKind → RowAnswer → Saying
+saying_of kind answer =
+    record {
+      column = column kind answer;
+      place = counted_as kind answer;
+      hold = hold_of kind answer;
+      flight = flight_of kind answer;
+      handling = use_of kind answer;
+    }
 
 -- what a row says
 abbrev pub fact_of : Row → Fact

@@ -171,6 +171,24 @@ abbrev pub aged_if : ℕ → Option ℕ → Aged → Aged
 aged_if n None a = a
 aged_if n (Some age) a = aged_with n age a
 
+-- the ages of all messages, of those that came by no move, and of those that came by one
+pub record AgesApart : Type 0 where
+  pub all : Aged
+  pub others : Aged
+  pub moved : Aged
+
+abbrev pub none_apart : AgesApart
+none_apart = record { all = no_aged; others = no_aged; moved = no_aged }
+
+-- with one more age in the window with this number, of a message that came by a move or not
+abbrev pub apart_with : Bool → ℕ → ℕ → AgesApart → AgesApart
+apart_with moved n age a =
+    record {
+      all = aged_with n age a.all;
+      others = cond moved a.others (aged_with n age a.others);
+      moved = cond moved (aged_with n age a.moved) a.moved;
+    }
+
 -- the running figures of a queue
 pub record QueueState : Type 0 where
   pub asked : QueueAsked

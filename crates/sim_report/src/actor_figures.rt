@@ -64,7 +64,7 @@ impl ActorFigures {
         ensures { OnOk result (self.new ≡ actor_with place stretch fact.now self.old) }
     {
         self.busy.take(stretch, self.held.number > 0, fact.at)?;
-        self.held = self.held.after(fact.hold)?;
+        self.held.take(fact.hold)?;
         self.polls.take(stretch.from <= fact.at, fact)?;
         if stretch.from <= fact.at {
             count_in(&mut self.counts, place)?;

@@ -33,6 +33,20 @@ impl Aged {
         }
     }
 
+    /// The same ages.
+    ///
+    /// # Errors
+    ///
+    /// `AllocError` if a growth is refused.
+    pub(crate) fn copy(&self) -> Result<Aged, AllocError>
+        ensures { IfOk result (λ copy. copy ≡ self.now) }
+    {
+        Ok(Aged {
+            ages: self.ages.copy()?,
+            windows: self.windows.copy()?,
+        })
+    }
+
     /// Adds an age in the window with this number.
     ///
     /// # Errors

@@ -55,6 +55,21 @@ impl Ages {
         }
     }
 
+    /// The same ages.
+    ///
+    /// # Errors
+    ///
+    /// `AllocError` if a growth is refused.
+    pub(crate) fn copy(&self) -> Result<Ages, AllocError>
+        ensures { IfOk result (λ copy. copy ≡ self.now) }
+    {
+        let alloc = *self.recent.allocator();
+        Ok(Ages {
+            counted: self.counted(alloc)?,
+            recent: Vec::new(alloc),
+        })
+    }
+
     /// Adds an age.
     ///
     /// # Errors

@@ -1,10 +1,13 @@
 //! What the figures need of a row.
-ghost use Rattle.std.specs.Prelude.{◌≡◌};
-ghost use Rattle.sim_report.specs.Facts.{fact_of, place_in};
+ghost use Rattle.std.specs.Prelude.{◌≡◌, Some};
+ghost use Rattle.sim_report.specs.Facts.{fact_of, place_in, saying_of};
 ghost use Rattle.sim_report.specs.Figures.{counted_as, flight_of, hold_of, is_own, message_of, number_of, of_queue, receipt_of, tries_when, use_of};
+ghost use Rattle.sim_report.specs.declared.fact.Flight.TheVariants.{Stays};
+ghost use Rattle.sim_report.specs.declared.fact.Hold.TheVariants.{Keeps};
+ghost use Rattle.sim_report.specs.declared.fact.Use.TheVariants.{Passes};
 ghost use Rattle.sqs_formats.specs.Report.{is_column};
 
-use crate::column::{DELETES, RowCount};
+use crate::column::{ARRIVALS, DELETES, RowCount, SENDS, age_of, column_of};
 use sqs_message::{Detail, MessageId, Receipt, Row, RowAnswer, RowKind, RowReceipt};
 
 // The place of arrivals among the counts, before it is known how they came.
@@ -183,6 +186,81 @@ fn use_of(kind: RowKind, answer: RowAnswer) -> Use
     }
 }
 
+// What a row of some kind with some answer says: its column in the report, its place among the
+// counts, where an arrival stands for all three, and what it changes.
+#[derive(Clone, Copy, Debug, PartialEq, Eq)]
+struct Saying {
+    column: Option<u16>,
+    place: Option<u16>,
+    hold: Hold,
+    flight: Flight,
+    handling: Use,
+}
+
+// What a row of any kind with any answer says.
+#[cold]
+#[inline(never)]
+fn any_saying(kind: RowKind, answer: RowAnswer) -> Saying
+    ensures { result ≡ saying_of kind answer }
+{
+    Saying {
+        column: column_of(kind, answer),
+        place: counted_as(kind, answer),
+        hold: hold_of(kind, answer),
+        flight: flight_of(kind, answer),
+        handling: use_of(kind, answer),
+    }
+}
+
+// What a row says that changes nothing but counts.
+#[inline(always)]
+fn counted(column: Option<u16>, place: u16) -> Saying
+    ensures { result ≡ record { column = column; place = Some place; hold = Keeps; flight = Stays; handling = Passes } }
+{
+    Saying {
+        column,
+        place: Some(place),
+        hold: Hold::Keeps,
+        flight: Flight::Stays,
+        handling: Use::Passes,
+    }
+}
+
+// What a row of this kind with this answer says. What the most frequent ones say is known at once.
+#[inline(always)]
+fn said_by(kind: RowKind, answer: RowAnswer) -> Saying
+    ensures { result ≡ saying_of kind answer }
+{
+    match (kind, answer) {
+        (RowKind::Send, RowAnswer::New) => counted(Some(SENDS), 0),
+        (RowKind::Arrive, RowAnswer::New) => counted(Some(ARRIVALS), ARRIVAL),
+        (RowKind::Forward, RowAnswer::Out) => counted(None, 14),
+        (RowKind::Receive, RowAnswer::Ok) => Saying {
+            column: Some(2),
+            place: Some(6),
+            hold: Hold::Takes,
+            flight: Flight::Begins,
+            handling: Use::Gives,
+        },
+        (RowKind::Receive, RowAnswer::Wait) => Saying {
+            hold: Hold::Waits,
+            ..counted(None, 7)
+        },
+        (RowKind::Receive, RowAnswer::Empty) => Saying {
+            hold: Hold::Asks,
+            ..counted(Some(3), 8)
+        },
+        (RowKind::Delete, RowAnswer::Deleted) => Saying {
+            column: Some(DELETES),
+            place: Some(9),
+            hold: Hold::Settles,
+            flight: Flight::Leaves,
+            handling: Use::Deletes,
+        },
+        _ => any_saying(kind, answer),
+    }
+}
+
 // The receipt of a row, if it has one.
 fn receipt_of(receipt: &RowReceipt) -> Option<Receipt>
     ensures { result ≡ receipt_of receipt.now }
@@ -210,17 +288,21 @@ impl Fact {
     pub fn of(row: &Row) -> Fact
         ensures { result ≡ fact_of row.now }
     {
-        let count = RowCount::of(row);
+        let said = said_by(row.kind, row.answer);
         Fact {
             at: row.key.at,
             agent: row.agent,
-            count,
-            place: counted_as(row.kind, row.answer),
+            count: RowCount {
+                age: age_of(said.column, row.detail),
+                queue: row.queue,
+                column: said.column,
+            },
+            place: said.place,
             own: is_own(row.message, row.detail),
-            hold: hold_of(row.kind, row.answer),
-            flight: flight_of(row.kind, row.answer),
+            hold: said.hold,
+            flight: said.flight,
             number: number_of(row.message),
-            handling: use_of(row.kind, row.answer),
+            handling: said.handling,
             receipt: of_queue(row.queue, receipt_of(&row.receipt)),
         }
     }

@@ -97,7 +97,19 @@ impl Handled {
     /// # Errors
     ///
     /// `AllocError` if a growth is refused.
+    #[inline(always)]
     pub(crate) fn take(&mut self, within: bool, fact: &Fact) -> Result<(), AllocError>
+        ensures { OnOk result (self.new ≡ handled_with within fact.now self.old) }
+    {
+        match fact.handling {
+            Use::Passes => Ok(()),
+            _ => self.take_use(within, fact),
+        }
+    }
+
+    // Takes in what a row says that uses a receipt.
+    #[inline(never)]
+    fn take_use(&mut self, within: bool, fact: &Fact) -> Result<(), AllocError>
         ensures { OnOk result (self.new ≡ handled_with within fact.now self.old) }
     {
         if within && self.unused.handles(fact) {

@@ -1,8 +1,9 @@
 //! What an actor holds.
-ghost use Rattle.std.specs.Prelude.{◌≡◌, IfOk};
+ghost use Rattle.std.specs.Prelude.{◌≡◌, OnOk};
 ghost use Rattle.sim_report.specs.Figures.{held_with};
 
 use crate::fact::Hold;
+use crate::level::one_more;
 use std::alloc::AllocError;
 
 /// How many messages of its last receive an actor has not settled, and whether its last row was of
@@ -20,29 +21,32 @@ pub(crate) const NOTHING: Held = Held {
 };
 
 impl Held {
-    /// What it holds after a row that changes this.
+    /// Takes in a row that changes this.
     ///
     /// # Errors
     ///
     /// `AllocError` if the number is at its greatest value.
-    pub(crate) fn after(self, hold: Hold) -> Result<Held, AllocError>
-        ensures { IfOk result (λ held. held ≡ held_with hold self) }
+    #[inline(always)]
+    pub(crate) fn take(&mut self, hold: Hold) -> Result<(), AllocError>
+        ensures { OnOk result (self.new ≡ held_with hold self.old) }
     {
         match hold {
-            Hold::Takes if self.receiving => Ok(Held {
-                number: self.number.checked_add(1).ok_or(AllocError)?,
-                receiving: true,
-            }),
-            Hold::Takes => Ok(Held {
-                number: 1,
-                receiving: true,
-            }),
-            Hold::Waits | Hold::Asks => Ok(NOTHING),
-            Hold::Settles => Ok(Held {
-                number: self.number.saturating_sub(1),
-                receiving: false,
-            }),
-            Hold::Keeps => Ok(self),
+            Hold::Takes if self.receiving => self.number = one_more(self.number)?,
+            Hold::Takes => {
+                *self = Held {
+                    number: 1,
+                    receiving: true,
+                }
+            }
+            Hold::Waits | Hold::Asks => *self = NOTHING,
+            Hold::Settles => {
+                *self = Held {
+                    number: self.number.saturating_sub(1),
+                    receiving: false,
+                }
+            }
+            Hold::Keeps => {}
         }
+        Ok(())
     }
 }

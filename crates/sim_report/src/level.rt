@@ -1,5 +1,5 @@
 //! How many messages came into a queue, and how many went out.
-ghost use Rattle.std.specs.Prelude.{◌≡◌, ◌+◌, IfOk};
+ghost use Rattle.std.specs.Prelude.{◌≡◌, ◌+◌, IfOk, OnOk};
 ghost use Rattle.sim_report.specs.Figured.{depth_at, level_with};
 
 use crate::column::{ARRIVALS, DELETES, EXPIRIES, MOVES, REDRIVES, SENDS};
@@ -23,26 +23,21 @@ pub(crate) fn one_more(count: u64) -> Result<u64, AllocError>
 }
 
 impl Level {
-    /// The level after a row that has this column in the report.
+    /// Takes in a row that has this column in the report.
     ///
     /// # Errors
     ///
     /// `AllocError` if a count is at its greatest value.
-    pub(crate) fn after(self, column: Option<u16>) -> Result<Level, AllocError>
-        ensures { IfOk result (λ level. level ≡ level_with column self) }
+    #[inline(always)]
+    pub(crate) fn take(&mut self, column: Option<u16>) -> Result<(), AllocError>
+        ensures { OnOk result (self.new ≡ level_with column self.old) }
     {
-        let Level { came, went } = self;
         match column {
-            Some(SENDS | ARRIVALS) => Ok(Level {
-                came: one_more(came)?,
-                went,
-            }),
-            Some(DELETES | EXPIRIES | REDRIVES | MOVES) => Ok(Level {
-                came,
-                went: one_more(went)?,
-            }),
-            _ => Ok(self),
+            Some(SENDS | ARRIVALS) => self.came = one_more(self.came)?,
+            Some(DELETES | EXPIRIES | REDRIVES | MOVES) => self.went = one_more(self.went)?,
+            _ => {}
         }
+        Ok(())
     }
 
     /// The number of messages that are there.

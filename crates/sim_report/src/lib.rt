@@ -5,6 +5,7 @@ mod actor_figures;
 mod age_counts;
 mod aged;
 mod ages;
+mod apart;
 mod asked;
 mod backlogs;
 mod column;

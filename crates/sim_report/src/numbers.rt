@@ -1,5 +1,5 @@
 //! Numbers of messages that are in some state.
-ghost use Rattle.std.specs.Prelude.{◌≡◌, ◌==◌, ◌+◌, ◌++◌, ◌<◌, ◌^◌, All, length, ℕ, OnErr, OnOk};
+ghost use Rattle.std.specs.Prelude.{◌≡◌, ◌==◌, ◌+◌, ◌++◌, ◌<◌, ◌≤◌, ◌^◌, All, cond, length, ℕ, OnErr, OnOk};
 ghost use Rattle.std.specs.BTreeMap.{is_at};
 ghost use Rattle.std.specs.BTreeSet.{insert_key};
 ghost use Rattle.std.specs.List.{list_any};
@@ -49,7 +49,24 @@ impl Model for Numbers {
     ghost invariant = { λ n. AreNumbered n.low.keys n.first n.flags.items n.count };
 }
 
+// Makes so many flags that there is one in this place, none of them set. It is a call of its own,
+// since it is rare.
+#[cold]
+#[inline(never)]
+fn grow(flags: &mut Vec<bool>, place: usize) -> Result<(), AllocError>
+    requires { length flags.old.items ≤ place }
+    ensures same { OnOk result
+        ((n : ℕ) → marked n flags.new.items ≡ marked n flags.old.items) }
+    ensures to { OnOk result (place < length flags.new.items) }
+    ensures unchanged { OnErr result (flags.new.items ≡ flags.old.items) }
+{
+    let many = place.checked_add(MORE).ok_or(AllocError)?;
+    flags.resize(many, false)?;
+    Ok(())
+}
+
 // Makes so many flags that there is one in this place, none of them set.
+#[inline(always)]
 fn reach(flags: &mut Vec<bool>, place: usize) -> Result<(), AllocError>
     ensures same { OnOk result
         ((n : ℕ) → marked n flags.new.items ≡ marked n flags.old.items) }
@@ -57,10 +74,20 @@ fn reach(flags: &mut Vec<bool>, place: usize) -> Result<(), AllocError>
     ensures unchanged { OnErr result (flags.new.items ≡ flags.old.items) }
 {
     if flags.len() <= place {
-        let many = place.checked_add(MORE).ok_or(AllocError)?;
-        flags.resize(many, false)?;
+        grow(flags, place)?;
     }
     Ok(())
+}
+
+// Removes a number from a set, if it is there. Returns whether it was. It is a call of its own,
+// since it is rare.
+#[cold]
+#[inline(never)]
+fn remove_low(low: &mut BTreeSet<u64>, number: u64) -> bool
+    ensures keys { low.new.keys ≡ remove_key (is_at (nat_cmp number)) low.old.keys }
+    ensures len { length low.new.keys + cond result 1 0 ≡ length low.old.keys }
+{
+    low.remove(&number)
 }
 
 // Puts the numbers whose flags are set into a set of lower ones.
@@ -102,6 +129,7 @@ impl Numbers {
     }
 
     /// Whether a number is one of them.
+    #[inline(always)]
     pub(crate) fn has(&self, number: u64) -> bool
         ensures { result ≡ list_any (λ n. n == number) self.now }
     {
@@ -113,6 +141,11 @@ impl Numbers {
         }
         let place = (number - self.first) as usize;
         place < self.flags.len() && self.flags[place]
+    }
+
+    // Whether a number has a flag.
+    fn has_flag(&self, number: u64) -> bool {
+        self.first <= number && number - self.first < self.flags.len() as u64
     }
 
     // Lets the flags begin with that of a number, if there are no numbers.
@@ -148,7 +181,8 @@ impl Numbers {
         Ok(())
     }
 
-    // Adds a number, if it is not there.
+    // Adds a number, if it is not there. The flags need not reach to it.
+    #[inline(always)]
     fn put(&mut self, number: u64) -> Result<(), AllocError>
         ensures { OnOk result (self.new ≡ insert_key nat_cmp self.old number) }
     {
@@ -168,20 +202,34 @@ impl Numbers {
         Ok(())
     }
 
+    // Chooses where the flags begin, for a number that has none. It is a call of its own, since it
+    // is rare.
+    #[cold]
+    #[inline(never)]
+    fn settle(&mut self, number: u64) -> Result<(), AllocError>
+        ensures { OnOk result (self.new ≡ self.old) }
+    {
+        self.begin(number);
+        self.lift(number)
+    }
+
     /// Adds a number, if it is not there.
     ///
     /// # Errors
     ///
     /// `AllocError` if a growth is refused.
+    #[inline(always)]
     pub(crate) fn add(&mut self, number: u64) -> Result<(), AllocError>
         ensures { OnOk result (self.new ≡ insert_key nat_cmp self.old number) }
     {
-        self.begin(number);
-        self.lift(number)?;
+        if !self.has_flag(number) {
+            self.settle(number)?;
+        }
         self.put(number)
     }
 
     /// Removes a number, if it is there.
+    #[inline(always)]
     pub(crate) fn remove(&mut self, number: u64)
         ensures { self.new ≡ remove_key (is_at (nat_cmp number)) self.old }
     {
@@ -189,7 +237,7 @@ impl Numbers {
             return;
         }
         if number < self.first {
-            if self.low.remove(&number) {
+            if remove_low(&mut self.low, number) {
                 self.count -= 1;
             }
             return;
@@ -207,6 +255,7 @@ impl Numbers {
     /// # Errors
     ///
     /// `AllocError` if a growth is refused.
+    #[inline(always)]
     pub(crate) fn fly(&mut self, flight: Flight, number: u64) -> Result<(), AllocError>
         ensures { OnOk result (self.new ≡ flying_with flight number self.old) }
     {
@@ -224,6 +273,7 @@ impl Numbers {
     /// # Errors
     ///
     /// `AllocError` if a growth is refused.
+    #[inline(always)]
     pub(crate) fn carry(
         &mut self,
         place: Option<u16>,

@@ -1,5 +1,6 @@
 //! Messages to which something happened, and how often.
-ghost use Rattle.std.specs.Prelude.{◌≡◌, ◌-◌, length, OnOk};
+ghost use Rattle.std.specs.Prelude.{◌≡◌, ◌==◌, ◌-◌, length, true, OnOk};
+ghost use Rattle.std.specs.List.{list_any};
 ghost use Rattle.sim_report.specs.Figures.{never, once_more, times};
 
 use crate::level::one_more;
@@ -48,20 +49,32 @@ impl Often {
         }
     }
 
+    // Takes in that it happened again to one of these messages. It is a call of its own, since it is
+    // rare.
+    #[inline(never)]
+    fn add_again(&mut self, number: u64) -> Result<(), AllocError>
+        requires { list_any (λ n. n == number) self.old.all ≡ true }
+        ensures { OnOk result (self.new ≡ once_more number self.old) }
+    {
+        let times = one_more(self.times(number))?;
+        self.again.insert(number, times)?;
+        self.greatest = self.greatest.max(times);
+        self.all.add(number)
+    }
+
     /// Takes in that it happened to the message with this number once more.
     ///
     /// # Errors
     ///
     /// `AllocError` if a growth is refused.
+    #[inline(always)]
     pub(crate) fn add(&mut self, number: u64) -> Result<(), AllocError>
         ensures { OnOk result (self.new ≡ once_more number self.old) }
     {
-        let mut times = 1;
         if self.all.has(number) {
-            times = one_more(self.times(number))?;
-            self.again.insert(number, times)?;
+            return self.add_again(number);
         }
-        self.greatest = self.greatest.max(times);
+        self.greatest = self.greatest.max(1);
         self.all.add(number)
     }
 

@@ -1,7 +1,8 @@
 //! The receives of a queue or of an actor.
 ghost use Rattle.std.specs.Prelude.{◌≡◌, OnOk};
-ghost use Rattle.sim_report.specs.Figured.{asks, no_polls, polls_with};
-ghost use Rattle.sim_report.specs.Figures.{given_by, is_first, is_given, waiting_with};
+ghost use Rattle.sim_report.specs.Figured.{no_polls, polls_with};
+ghost use Rattle.sim_report.specs.Figures.{is_given};
+ghost use Rattle.sim_report.specs.declared.fact.Hold.TheVariants.{Asks, Takes, Waits};
 
 use crate::fact::{Fact, Hold};
 use crate::level::one_more;
@@ -27,19 +28,6 @@ pub(crate) struct Polls {
     pub(crate) batches: u64,
 }
 
-// To whom a row gave a message, if it gave one.
-fn given_by(fact: &Fact) -> Option<Given>
-    ensures { result ≡ given_by fact.now.hold fact.now.agent fact.now.at }
-{
-    match fact.hold {
-        Hold::Takes => Some(Given {
-            agent: fact.agent,
-            at: fact.at,
-        }),
-        _ => None,
-    }
-}
-
 // Whether this is the agent and the moment of a row.
 fn is_given(given: Option<Given>, fact: &Fact) -> bool
     ensures { result ≡ is_given given fact.now.agent fact.now.at }
@@ -48,19 +36,6 @@ fn is_given(given: Option<Given>, fact: &Fact) -> bool
         Some(given) => given.agent == fact.agent && given.at == fact.at,
         None => false,
     }
-}
-
-// Takes in what a row says of the agents whose polls wait.
-fn wait(waiting: &mut Numbers, fact: &Fact) -> Result<(), AllocError>
-    ensures { OnOk result
-        (waiting.new ≡ waiting_with fact.now.hold fact.now.agent waiting.old) }
-{
-    match fact.hold {
-        Hold::Waits => waiting.add(u64::from(fact.agent))?,
-        Hold::Takes | Hold::Asks => waiting.remove(u64::from(fact.agent)),
-        Hold::Settles | Hold::Keeps => {}
-    }
-    Ok(())
 }
 
 impl Polls {
@@ -76,26 +51,53 @@ impl Polls {
         }
     }
 
-    // Whether a row is the first of a receive.
-    fn asks(&self, fact: &Fact) -> bool
-        ensures { result ≡ asks fact.now self.now }
+    // Takes in that a poll of an agent begins to wait.
+    #[inline(never)]
+    fn wait(&mut self, within: bool, fact: &Fact) -> Result<(), AllocError>
+        requires { fact.now.hold ≡ Waits }
+        ensures { OnOk result (self.new ≡ polls_with within fact.now self.old) }
     {
-        match fact.hold {
-            Hold::Waits => true,
-            Hold::Asks => !self.waiting.has(u64::from(fact.agent)),
-            Hold::Takes => {
-                !self.waiting.has(u64::from(fact.agent)) && !is_given(self.given, fact)
-            }
-            Hold::Settles | Hold::Keeps => false,
+        if within {
+            self.asked = one_more(self.asked)?;
         }
+        self.waiting.add(u64::from(fact.agent))?;
+        self.given = None;
+        Ok(())
     }
 
-    // Whether a row is the first message of a receive.
-    fn begins_batch(&self, fact: &Fact) -> bool
-        ensures { result ≡ is_first fact.now.hold
-            (is_given self.now.given fact.now.agent fact.now.at) }
+    // Takes in that an agent asked for messages and has none.
+    #[inline(never)]
+    fn miss(&mut self, within: bool, fact: &Fact) -> Result<(), AllocError>
+        requires { fact.now.hold ≡ Asks }
+        ensures { OnOk result (self.new ≡ polls_with within fact.now self.old) }
     {
-        fact.hold == Hold::Takes && !is_given(self.given, fact)
+        if within && !self.waiting.has(u64::from(fact.agent)) {
+            self.asked = one_more(self.asked)?;
+        }
+        self.waiting.remove(u64::from(fact.agent));
+        self.given = None;
+        Ok(())
+    }
+
+    // Takes in that a row gave a message to an agent.
+    #[inline(never)]
+    fn give(&mut self, within: bool, fact: &Fact) -> Result<(), AllocError>
+        requires { fact.now.hold ≡ Takes }
+        ensures { OnOk result (self.new ≡ polls_with within fact.now self.old) }
+    {
+        let agent = u64::from(fact.agent);
+        if within && !is_given(self.given, fact) {
+            self.batches = one_more(self.batches)?;
+            if !self.waiting.has(agent) {
+                self.asked = one_more(self.asked)?;
+            }
+        }
+        self.waiting.remove(agent);
+        self.given = Some(Given {
+            agent: fact.agent,
+            at: fact.at,
+        });
+        Ok(())
     }
 
     /// Takes in what a row says, which lies in the stretch or not.
@@ -103,17 +105,18 @@ impl Polls {
     /// # Errors
     ///
     /// `AllocError` if a growth is refused, or the count is at its greatest value.
+    #[inline(always)]
     pub(crate) fn take(&mut self, within: bool, fact: &Fact) -> Result<(), AllocError>
         ensures { OnOk result (self.new ≡ polls_with within fact.now self.old) }
     {
-        if within && self.asks(fact) {
-            self.asked = one_more(self.asked)?;
+        match fact.hold {
+            Hold::Settles | Hold::Keeps => {
+                self.given = None;
+                Ok(())
+            }
+            Hold::Waits => self.wait(within, fact),
+            Hold::Asks => self.miss(within, fact),
+            Hold::Takes => self.give(within, fact),
         }
-        if within && self.begins_batch(fact) {
-            self.batches = one_more(self.batches)?;
-        }
-        wait(&mut self.waiting, fact)?;
-        self.given = given_by(fact);
-        Ok(())
     }
 }

@@ -4,7 +4,8 @@ ghost use Rattle.sim_report.specs.Figured.{bounds_by, fresh_queue, is_backlog_by
 ghost use Rattle.sim_report.specs.Figures.{age_by, figure_fields, named_often, named_tries};
 ghost use Rattle.sqs_formats.specs.Rows.{lines};
 
-use crate::aged::{AGES, Aged, BOUNDS};
+use crate::aged::{AGES, BOUNDS};
+use crate::apart::AgedApart;
 use crate::asked::{QueueAsked, Wanted};
 use crate::backlogs::{Backlogs, NO_BACKLOGS};
 use crate::column::comes_in;
@@ -115,10 +116,7 @@ pub(crate) struct QueueFigures {
     polls: Polls,
     handled: Handled,
     tries: Tries,
-    ages: Aged,
-    // The ages of messages that came by no move, and of those that came by one.
-    new_ages: Aged,
-    moved_ages: Aged,
+    ages: AgedApart,
     // Whether the stretch has begun.
     begun: bool,
     level: Level,
@@ -140,7 +138,7 @@ impl Model for QueueFigures {
 
     ghost Value = { QueueState };
 
-    ghost view = { λ q. record { asked = q.asked; counts = q.counts; polls = q.polls; handled = q.handled; tries = q.tries; ages = q.ages; new_ages = q.new_ages; moved_ages = q.moved_ages; begun = q.begun; level = q.level; flying = q.flying; moved = q.moved; there = q.there; depth = q.depth; in_flight = q.in_flight; oldest = q.oldest; full = q.full; backlogs = q.backlogs } };
+    ghost view = { λ q. record { asked = q.asked; counts = q.counts; polls = q.polls; handled = q.handled; tries = q.tries; ages = q.ages.all; new_ages = q.ages.others; moved_ages = q.ages.moved; begun = q.begun; level = q.level; flying = q.flying; moved = q.moved; there = q.there; depth = q.depth; in_flight = q.in_flight; oldest = q.oldest; full = q.full; backlogs = q.backlogs } };
 }
 
 // Tries by their names.
@@ -182,9 +180,7 @@ impl QueueFigures {
             polls: Polls::new(alloc),
             handled: Handled::new(alloc),
             tries: NO_TRIES,
-            ages: Aged::new(alloc),
-            new_ages: Aged::new(alloc),
-            moved_ages: Aged::new(alloc),
+            ages: AgedApart::new(alloc),
             begun: false,
             level: EMPTY,
             flying: Numbers::new(alloc),
@@ -208,12 +204,7 @@ impl QueueFigures {
         }
         if let Some(age) = fact.count.age {
             let window = wanted.window_of(fact.at);
-            self.ages.add(window, age)?;
-            if self.moved.has(fact.number) {
-                self.moved_ages.add(window, age)?;
-            } else {
-                self.new_ages.add(window, age)?;
-            }
+            self.ages.add(self.moved.has(fact.number), window, age)?;
         }
         Ok(())
     }
@@ -222,7 +213,7 @@ impl QueueFigures {
     fn change(&mut self, place: Option<u16>, fact: &Fact) -> Result<(), AllocError>
         ensures { OnOk result (self.new ≡ queue_changing place fact.now self.old) }
     {
-        self.level = self.level.after(fact.count.column)?;
+        self.level.take(fact.count.column)?;
         self.flying.fly(fact.flight, fact.number)?;
         self.moved.carry(place, fact.flight, fact.number)?;
         let comes = comes_in(fact.count.column);
@@ -370,9 +361,9 @@ impl QueueFigures {
             ++ lines (map (figure_fields self.now.asked.name) (queue_ages wanted self.now))) }
     {
         let of = self.asked.name.as_bytes();
-        let all = self.ages.figures(alloc, wanted, AGE_NAMES)?;
-        let new = self.new_ages.figures(alloc, wanted, NEW_AGE_NAMES)?;
-        let moved = self.moved_ages.figures(alloc, wanted, MOVED_AGE_NAMES)?;
+        let all = self.ages.all().figures(alloc, wanted, AGE_NAMES)?;
+        let new = self.ages.others().figures(alloc, wanted, NEW_AGE_NAMES)?;
+        let moved = self.ages.moved().figures(alloc, wanted, MOVED_AGE_NAMES)?;
         add_figures(text, of, &all)?;
         add_figures(text, of, &new)?;
         add_figures(text, of, &moved)
@@ -391,17 +382,14 @@ impl QueueFigures {
         let of = self.asked.name.as_bytes();
         let at = wanted.stretch.last();
         let left = self.there.ages(alloc, at)?;
-        let all = self
-            .ages
-            .bounds(alloc, wanted, left.as_slice(), AGE_BOUNDS)?;
+        let ages = self.ages.all();
+        let all = ages.bounds(alloc, wanted, left.as_slice(), AGE_BOUNDS)?;
         let left = self.there.ages_apart(alloc, at, &self.moved, false)?;
-        let new = self
-            .new_ages
-            .bounds(alloc, wanted, left.as_slice(), NEW_AGE_BOUNDS)?;
+        let ages = self.ages.others();
+        let new = ages.bounds(alloc, wanted, left.as_slice(), NEW_AGE_BOUNDS)?;
         let left = self.there.ages_apart(alloc, at, &self.moved, true)?;
-        let moved = self
-            .moved_ages
-            .bounds(alloc, wanted, left.as_slice(), MOVED_AGE_BOUNDS)?;
+        let ages = self.ages.moved();
+        let moved = ages.bounds(alloc, wanted, left.as_slice(), MOVED_AGE_BOUNDS)?;
         add_figures(text, of, &all)?;
         add_figures(text, of, &new)?;
         add_figures(text, of, &moved)

@@ -47,6 +47,21 @@ impl Windows {
         }
     }
 
+    /// The same windows.
+    ///
+    /// # Errors
+    ///
+    /// `AllocError` if a growth is refused.
+    pub(crate) fn copy(&self) -> Result<Windows, AllocError>
+        ensures { IfOk result (λ copy. copy ≡ self.now) }
+    {
+        Ok(Windows {
+            number: self.number,
+            ages: self.ages.copy()?,
+            worst: self.worst,
+        })
+    }
+
     /// The worst window so far.
     ///
     /// # Errors

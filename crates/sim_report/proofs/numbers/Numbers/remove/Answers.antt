@@ -14,25 +14,36 @@ invariant_of-self c =
     let low = c.self.inside.low.keys in
     let first = c.self.inside.first in
     let flags = c.self.inside.flags.items in
-    let one : length c.remove.new.self.keys + 1 ≡ length low = rw c.if-remove.true at c.remove.ensures.len in
+    let one : length c.remove_low.new.low.keys + 1 ≡ length low = rw c.if-remove_low.true at c.remove_low.ensures.len in
     record {
-      counted = omega (arith, one, c.self.invariant.counted, length-append low (marked first flags), length-append c.remove.new.self.keys (marked first flags));
-      below = rw c.remove.ensures.keys (All-remove_key (is_at (nat_cmp c.args.number)) (λ m. m < first) low c.self.invariant.below);
+      counted = omega (arith, one, c.self.invariant.counted, length-append low (marked first flags), length-append c.remove_low.new.low.keys (marked first flags));
+      below = rw c.remove_low.ensures.keys (All-remove_key (is_at (nat_cmp c.args.number)) (λ m. m < first) low c.self.invariant.below);
     }
 
-pub returns-then-remove : goal.returns-then-remove
-returns-then-remove c =
+pub invariant_of-self-else-remove_low : goal.invariant_of-self-else-remove_low
+invariant_of-self-else-remove_low c =
+    let low = c.self.inside.low.keys in
     let first = c.self.inside.first in
     let flags = c.self.inside.flags.items in
-    ap (λ (ks : List ℕ). numbered ks first flags) c.remove.ensures.keys
+    let same : length c.remove_low.new.low.keys + 0 ≡ length low = rw c.if-remove_low.false at c.remove_low.ensures.len in
+    record {
+      counted = omega (arith, same, c.self.invariant.counted, length-append low (marked first flags), length-append c.remove_low.new.low.keys (marked first flags));
+      below = rw c.remove_low.ensures.keys (All-remove_key (is_at (nat_cmp c.args.number)) (λ m. m < first) low c.self.invariant.below);
+    }
+
+pub returns-then-remove_low : goal.returns-then-remove_low
+returns-then-remove_low c =
+    let first = c.self.inside.first in
+    let flags = c.self.inside.flags.items in
+    ap (λ (ks : List ℕ). numbered ks first flags) c.remove_low.ensures.keys
     ∙ sym (remove-low c.args.number first c.self.inside.low.keys flags (omega (arith, c.if-number-self.true)))
     ∙ ap (remove_key (is_at (nat_cmp c.args.number))) c.self.view_is
 
-pub returns-else-remove : goal.returns-else-remove
-returns-else-remove c =
+pub returns-else-remove_low : goal.returns-else-remove_low
+returns-else-remove_low c =
     let first = c.self.inside.first in
     let flags = c.self.inside.flags.items in
-    ap (λ (ks : List ℕ). numbered ks first flags) c.remove.ensures.keys
+    ap (λ (ks : List ℕ). numbered ks first flags) c.remove_low.ensures.keys
     ∙ sym (remove-low c.args.number first c.self.inside.low.keys flags (omega (arith, c.if-number-self.true)))
     ∙ ap (remove_key (is_at (nat_cmp c.args.number))) c.self.view_is
 

@@ -14,11 +14,11 @@ returns c =
     let of : c.as_bytes-of.result.now ≡ q.asked.name = c.as_bytes-of.ensures ∙ ap (λ (x : QueueState). x.asked.name) c.self.view_is in
     let w = c.args.wanted in
     let all : c.in_ok-all.all ≡ ages_named (codes "age") w q.ages =
-    c.in_ok-all.ensures ∙ ap (λ (x : QueueState). ages_named (codes "age") w x.ages) c.self.view_is in
+    c.in_ok-all.ensures ∙ ap (ages_named (codes "age") w) c.all.ensures ∙ ap (λ (x : QueueState). ages_named (codes "age") w x.ages) c.self.view_is in
     let new : c.in_ok-new.new ≡ ages_named (codes "new_age") w q.new_ages =
-    c.in_ok-new.ensures ∙ ap (λ (x : QueueState). ages_named (codes "new_age") w x.new_ages) c.self.view_is in
+    c.in_ok-new.ensures ∙ ap (ages_named (codes "new_age") w) c.others.ensures ∙ ap (λ (x : QueueState). ages_named (codes "new_age") w x.new_ages) c.self.view_is in
     let moved : c.in_ok-moved.moved ≡ ages_named (codes "moved_age") w q.moved_ages =
-    c.in_ok-moved.ensures ∙ ap (λ (x : QueueState). ages_named (codes "moved_age") w x.moved_ages) c.self.view_is in
+    c.in_ok-moved.ensures ∙ ap (ages_named (codes "moved_age") w) c.moved.ensures ∙ ap (λ (x : QueueState). ages_named (codes "moved_age") w x.moved_ages) c.self.view_is in
     let first : c.add_figures.new.text ≡ c.args.text.now ++ said q.asked.name (ages_named (codes "age") w q.ages) =
     c.in_ok-add_figures.ensures ∙ ap (λ (n : List ℕ). c.args.text.now ++ said n c.in_ok-all.all) of
     ∙ ap (λ (fs : List Figure). c.args.text.now ++ said q.asked.name fs) all in
