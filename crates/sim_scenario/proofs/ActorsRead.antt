@@ -13,7 +13,7 @@ use Rattle.sqs_formats.specs.declared.actor_kind.ActorKind.{ActorKind}
 use Rattle.sqs_formats.specs.declared.actor_kind.ActorKind.TheVariants as kinds
 use Rattle.sqs_formats.specs.declared.failing.Failing.{Failing}
 use Rattle.sqs_formats.specs.declared.home.Home.{Home}
-use Rattle.sqs_formats.specs.Keys.{Table, at, has, integer, optional, place_of, seconds, text_when}
+use Rattle.sqs_formats.specs.Keys.{Table, at, has, integer, newer, optional, place_of, seconds, text_when}
 use Rattle.sqs_formats.specs.Copies.{copy_name, copy_names}
 use Rattle.sqs_formats.specs.Names.{is_agent_name}
 use Rattle.sqs_formats.specs.Outline.{Outline, actor_place, is_fresh, kin_named, kins_by, kins_named, kind_at, queue_named, queue_number}
@@ -187,13 +187,13 @@ serving_reads t s e =
     let each = parts _ _ _ once.2 in
     rw (← same_ok _ _ each.2) (serving_in_range once.0 each.0 (optional_within 0 86400000 0 t (codes "service_each_ms") each.0 (lit≤ tt, lit≤ tt) each.1).1)
 
-service_reads : (t : Table) (d : Distribution) → service t ≡ Ok d → IsDistribution d
+service_reads : (version : ℕ) (t : Table) (d : Distribution) → service version t ≡ Ok d → IsDistribution d
 unfolding service
-service_reads t d e = time_in_range (has t (codes "service")) (codes "service") (codes "service_min_ms") (codes "service_max_ms") t d e
+service_reads version t d e = time_in_range (has (newer version t) (codes "service")) (codes "service") (codes "service_min_ms") (codes "service_max_ms") t d e
 
-gap_reads : (t : Table) (d : Distribution) → gap t ≡ Ok d → IsDistribution d
+gap_reads : (version : ℕ) (t : Table) (d : Distribution) → gap version t ≡ Ok d → IsDistribution d
 unfolding gap
-gap_reads t d e = time_in_range (has t (codes "gap")) (codes "gap") (codes "gap_min_ms") (codes "gap_max_ms") t d e
+gap_reads version t d e = time_in_range (has (newer version t) (codes "gap")) (codes "gap") (codes "gap_min_ms") (codes "gap_max_ms") t d e
 
 scaling_reads : (b : Bool) (o : Outline) (home index : ℕ) (t : Table) (s : Option Scaling) → scaling b o home index t ≡ Ok s → MayBeScaling s
 unfolding scaling
@@ -269,24 +269,25 @@ consumer_reads o home index t r e =
     let stop = parts _ _ _ forward.2 in
     let scaled = parts _ _ _ stop.2 in
     let fails = parts _ _ _ scaled.2 in
-    let lasting = failing_reads t fails.0 fails.1 in
+    let new = newer o.version t in
+    let lasting = failing_reads new fails.0 fails.1 in
     let onward = forward_reads o home (has t (codes "forward")) t forward.0 forward.1 in
     rw (← same_ok _ _ fails.2) (
       onward.0,
       record {
         start = (optional_within 0 2592000000 0 t (codes "start_ms") start.0 (lit≤ tt, lit≤ tt) start.1).1;
         batch = optional_within 1 10 1 t (codes "batch") batch.0 (lit≤ tt, lit≤ tt) batch.1;
-        gather = (optional_within 0 300000 0 t (codes "gather_ms") gather.0 (lit≤ tt, lit≤ tt) gather.1).1;
+        gather = (optional_within 0 300000 0 new (codes "gather_ms") gather.0 (lit≤ tt, lit≤ tt) gather.1).1;
         wait = (optional_within 0 20 0 t (codes "wait_s") wait.0 (lit≤ tt, lit≤ tt) wait.1).1;
         timeout = maybe_within MayBeTimeout longest_timeout t (codes "timeout_s") timeout.0 tt (λ n h. h) timeout.1;
-        service = service_reads t service.0 service.1;
-        serving = serving_reads t serving.0 serving.1;
-        fail_service = maybe_within MayBeFailService 43200000 t (codes "fail_service_ms") fail_service.0 tt (λ n h. h) fail_service.1;
+        service = service_reads o.version t service.0 service.1;
+        serving = serving_reads new serving.0 serving.1;
+        fail_service = maybe_within MayBeFailService 43200000 new (codes "fail_service_ms") fail_service.0 tt (λ n h. h) fail_service.1;
         failures = (optional_within 0 1000 0 t (codes "fail_permille") failures.0 (lit≤ tt, lit≤ tt) failures.1).1;
         idle = optional_within 1 86400000 1000 t (codes "idle_ms") idle.0 (lit≤ tt, lit≤ tt) idle.1;
         forward = onward.1;
-        stop = stop_reads start.0 t stop.0 stop.1;
-        scaling = scaling_reads (has t (codes "scaler")) o home index t scaled.0 scaled.1;
+        stop = stop_reads start.0 new stop.0 stop.1;
+        scaling = scaling_reads (has new (codes "scaler")) o home index new scaled.0 scaled.1;
         outages = lasting.outages;
         backoff = lasting.backoff;
         heartbeat = lasting.heartbeat;
@@ -294,15 +295,15 @@ consumer_reads o home index t r e =
     )
 
 -- what a producer gives at a home of its kind
-sending_says : (b : Bool) (t : Table) (own : Option Groups × Bool × Option ℕ) (p : ProducerSettings) → p.groups ≡ own.0 → p.ids ≡ own.1 → p.delay ≡ own.2 → sending b t ≡ Ok own → IsSendingAt b p
+sending_says : (b by_weight : Bool) (t : Table) (own : Option Groups × Bool × Option ℕ) (p : ProducerSettings) → p.groups ≡ own.0 → p.ids ≡ own.1 → p.delay ≡ own.2 → sending b by_weight t ≡ Ok own → IsSendingAt b p
 unfolding sending
-sending_says true t own p g i d e =
+sending_says true by_weight t own p g i d e =
     let groups = parts _ _ _ e in
     let ids = parts _ _ _ groups.2 in
     let is = same_ok _ _ ids.2 in
     let same : p.groups ≡ Some groups.0 = g ∙ ap (λ (x : Option Groups × Bool × Option ℕ). x.0) (sym is) in
     (rw same tt, d ∙ ap (λ (x : Option Groups × Bool × Option ℕ). x.2) (sym is))
-sending_says false t own p g i d e =
+sending_says false by_weight t own p g i d e =
     let delay = parts _ _ _ e in
     let is = same_ok _ _ delay.2 in
     let same : p.delay ≡ delay.0 = d ∙ ap (λ (x : Option Groups × Bool × Option ℕ). x.2) (sym is) in (
@@ -311,13 +312,13 @@ sending_says false t own p g i d e =
       rw same (maybe_within MayDelay longest_delay t (codes "delay_s") delay.0 tt (λ n h. h) delay.1),
     )
 
-sending_in_range : (b : Bool) (t : Table) (own : Option Groups × Bool × Option ℕ) → sending b t ≡ Ok own → MayBeGroups own.0
+sending_in_range : (b by_weight : Bool) (t : Table) (own : Option Groups × Bool × Option ℕ) → sending b by_weight t ≡ Ok own → MayBeGroups own.0
 unfolding sending
-sending_in_range true t own e =
+sending_in_range true by_weight t own e =
     let groups = parts _ _ _ e in
     let ids = parts _ _ _ groups.2 in
-    rw (← same_ok _ _ ids.2) (groups_in_range (has t (codes "key_groups")) t groups.0 groups.1)
-sending_in_range false t own e = let delay = parts _ _ _ e in rw (← same_ok _ _ delay.2) tt
+    rw (← same_ok _ _ ids.2) (groups_in_range by_weight t groups.0 groups.1)
+sending_in_range false by_weight t own e = let delay = parts _ _ _ e in rw (← same_ok _ _ delay.2) tt
 
 producer_reads : (o : Outline) (home : ℕ) (t : Table) (r : Role) → producing o.version (kind_at o home) t ≡ Ok r → RoleReads o home r
 producer_reads o home t r e =
@@ -328,14 +329,15 @@ producer_reads o home t r e =
     let body = parts _ _ _ gap.2 in
     let own = parts _ _ _ body.2 in
     let stop = parts _ _ _ own.2 in
+    let by_weight = has (newer o.version t) (codes "key_groups") in
     rw (← same_ok _ _ stop.2) (
-      sending_says (kind_at o home) t own.0 _ refl refl refl own.1,
+      sending_says (kind_at o home) by_weight t own.0 _ refl refl refl own.1,
       record {
         count = required_within 1 1000000 t (codes "count") count.0 count.1;
         start = (optional_within 0 2592000000 0 t (codes "start_ms") start.0 (lit≤ tt, lit≤ tt) start.1).1;
-        gap = gap_reads t gap.0 gap.1;
-        groups = sending_in_range (kind_at o home) t own.0 own.1;
-        stop = stop_reads start.0 t stop.0 stop.1;
+        gap = gap_reads o.version t gap.0 gap.1;
+        groups = sending_in_range (kind_at o home) by_weight t own.0 own.1;
+        stop = stop_reads start.0 (newer o.version t) stop.0 stop.1;
       },
     )
 
@@ -372,7 +374,7 @@ copies_say o index name t names e =
     let well = picked _ _ all formed.0 formed.1 in
     let new = picked _ _ all fresh.0 fresh.1 in
     let room = picked _ _ all names fresh.2 in
-    let most : n.0 ≤ 1000 = copies_most t n.0 n.1 in
+    let most : n.0 ≤ 1000 = copies_most (newer o.version t) n.0 n.1 in
     let count : get_or o.copies index 0 ≡ n.0 = (Decides-eqb (get_or o.copies index 0) (length all)).0 room.0 ∙ length-map-range_with_len (copy_name name) 1 n.0 in
     rw (← room.1) (record {
       is = ap (copy_names name) (sym count);

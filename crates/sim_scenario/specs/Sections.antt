@@ -1,12 +1,10 @@
 -- The table of a scenario's text that the code reads by its keys.
-use Rattle.std.specs.Prelude.{List, Result, [], find, length, map, ok_or, ℕ, Bool, codes}
+use Rattle.std.specs.Prelude.{List, Result, [], find, length, map, ok_or, option_map, ℕ, Bool, codes}
 use Rattle.toml.specs.View.{table_view, view}
 use Rattle.toml.specs.declared.value.Value.{Value}
-use Rattle.sqs_formats.specs.Keys.{KeyType, Table, fault_at, has, only, place_of, Says}
+use Rattle.sqs_formats.specs.Keys.{KeyType, Table, fault_at, has, members_or_none, only, place_of, Says}
 use Rattle.std.specs.Str.{bytes_eq}
 use Rattle.sim_clock.specs.declared.refusal.Refusal.TheVariants.{BadScript}
-use Rattle.sqs_model.specs.declared.agents.Distribution.{Distribution}
-use Rattle.sqs_formats.specs.Distributions.{time}
 use Rattle.sqs_formats.specs.Lists.{items}
 use Rattle.sim_scenario.specs.declared.section.Section.{Section}
 use Rattle.sim_scenario.specs.declared.fault.ReadError.{ReadError}
@@ -15,7 +13,7 @@ use Rattle.sqs_formats.specs.Queues.{queue_keys}
 
 -- as the definitions have it
 abbrev pub table_of : Section → Table
-table_of s = table s.place (table_view s.table.now)
+table_of s = table s.place (members_or_none (option_map (λ t. table_view t.now) s.table))
 
 -- the place of one of its keys
 abbrev pub key_place : Section → List ℕ → List ℕ
@@ -36,10 +34,6 @@ items_at says place values = items (says (length values)) place [] (map view val
 -- the script file of a name, which must exist
 abbrev pub file_of_name : List (List ℕ × List ℕ) → List ℕ → List ℕ → Says (List ℕ × List ℕ)
 file_of_name files name place = ok_or (find (λ file. bytes_eq file.0 name) files) (fault_at BadScript place)
-
--- a time: quantiles at the key if it is there, or else the two bounds
-abbrev pub time_at : List ℕ → List ℕ → List ℕ → Table → Says Distribution
-time_at key low high t = time (has t key) key low high t
 
 -- the keys that the table of a queue may have
 abbrev pub all_queue_keys : ℕ → Bool → Table → List (List ℕ)

@@ -94,7 +94,8 @@ fn copies(
     ensures { Gives (λ v. v.items) result
         (the_copies outline.now index name.now (table_of section.now)) }
 {
-    let copies = section.optional("copies", &Integer(1, 1000), 0)?;
+    let newer = section.newer(outline.version());
+    let copies = newer.optional("copies", &Integer(1, 1000), 0)?;
     let names = copy_names(section.alloc, name, copies)?;
     if !are_agent_names(names.as_slice()) {
         return Err(section.blame(Refusal::BadName, "copies"));

@@ -1,6 +1,6 @@
 //! A consumer of a scenario's text.
 ghost use Rattle.std.specs.Prelude.{◌≡◌, map};
-ghost use Rattle.sqs_formats.specs.Actors.{all_consumer_keys, consuming, fail_service_keys, failing, forward as the_forward, forward_keys, jitter_keys, newer_consumer_keys, scaling as the_scaling, scaling_keys, service_keys, serving as the_serving, serving_keys};
+ghost use Rattle.sqs_formats.specs.Actors.{all_consumer_keys, consuming, fail_service_keys, failing, forward as the_forward, forward_keys, jitter_keys, newer_consumer_keys, scaling as the_scaling, scaling_keys, service as the_service, service_keys, serving as the_serving, serving_keys};
 ghost use Rattle.sqs_formats.specs.Keys.{only};
 ghost use Rattle.sim_scenario.specs.Gives.{Gives};
 ghost use Rattle.sim_scenario.specs.Sections.{table_of};
@@ -16,7 +16,7 @@ use crate::producers::stopping;
 use crate::queues::{latency, latency_keys};
 use crate::section::{ACTOR_KEYS, Section};
 use sqs_formats::Failing;
-use sqs_model::{ConsumerSettings, Forwarding, Role, Scaling, Serving};
+use sqs_model::{ConsumerSettings, Distribution, Forwarding, Role, Scaling, Serving};
 
 /// The keys of every consumer.
 const CONSUMER_KEYS: &[&str] = &[
@@ -143,22 +143,21 @@ fn known_consumer_keys(version: u64, section: &Section<'_>) -> Result<(), ReadEr
     ensures { Gives (λ u. u) result
         (only (all_consumer_keys version (table_of section.now)) (table_of section.now)) }
 {
-    let service = service_keys(section.has_newer(version, "service"));
+    let newer = section.newer(version);
+    let service = service_keys(newer.has("service"));
     let forward = forward_keys(version, section.has("forward"));
-    let newer = newer_consumer_keys(version);
-    let serving = serving_keys(version, section.has_newer(version, "batch_service"));
-    let once = section.says("batch_service", "once");
-    let fail_service = fail_service_keys(version, once, section.says("batch_fails", "whole"));
-    let has_list = section.has_newer(version, "fails_between_ms");
-    let outages = outage_keys(has_list, section.has_newer(version, "fails_from_ms"));
-    let jitter = jitter_keys(section.has_newer(version, "backoff_s"));
-    let scaling = scaling_keys(section.has_newer(version, "scaler"));
+    let serving = serving_keys(version, newer.has("batch_service"));
+    let once = newer.says("batch_service", "once");
+    let fail_service = fail_service_keys(version, once, newer.says("batch_fails", "whole"));
+    let outages = outage_keys(newer.has("fails_between_ms"), newer.has("fails_from_ms"));
+    let jitter = jitter_keys(newer.has("backoff_s"));
+    let scaling = scaling_keys(newer.has("scaler"));
     section.only(&[
         ACTOR_KEYS,
         CONSUMER_KEYS,
         service,
         forward,
-        newer,
+        newer_consumer_keys(version),
         serving,
         fail_service,
         outages,
@@ -246,8 +245,23 @@ fn failing(section: &Section<'_>) -> Result<Failing, ReadError>
     })
 }
 
+/// The time of a service.
+#[tactic(auto, unfolding(sqs_formats::specs::Actors::service))]
+fn service(version: u64, section: &Section<'_>) -> Result<Distribution, ReadError>
+    ensures { Gives (λ d. d) result (the_service version (table_of section.now)) }
+{
+    let by_quantiles = section.newer(version).has("service");
+    time(
+        by_quantiles,
+        "service",
+        "service_min_ms",
+        "service_max_ms",
+        section,
+    )
+}
+
 /// A consumer of a queue.
-#[tactic(auto, unfolding(sqs_formats::specs::Actors::service, sqs_formats::specs::Reading::and_then))]
+#[tactic(auto, unfolding(sqs_formats::specs::Reading::and_then))]
 pub(crate) fn consumer(
     outline: &Outline,
     home: u32,
@@ -256,21 +270,23 @@ pub(crate) fn consumer(
 ) -> Result<Role, ReadError>
     ensures { Gives (λ c. c) result (consuming outline.now home index (table_of section.now)) }
 {
-    known_consumer_keys(outline.version(), section)?;
+    let version = outline.version();
+    known_consumer_keys(version, section)?;
+    let newer = section.newer(version);
     let start = section.optional("start_ms", &Integer(0, 2_592_000_000), 0)?;
     let batch = section.optional("batch", &Integer(1, 10), 1)?;
-    let gather = section.optional("gather_ms", &Integer(0, 300_000), 0)?;
+    let gather = newer.optional("gather_ms", &Integer(0, 300_000), 0)?;
     let wait = section.optional("wait_s", &Integer(0, 20), 0)?;
     let timeout = section.maybe("timeout_s", &Integer(0, 43_200))?;
-    let service = time("service", "service_min_ms", "service_max_ms", section)?;
-    let serving = serving(section)?;
-    let fail_service = section.maybe("fail_service_ms", &Integer(0, 43_200_000))?;
+    let service = service(version, section)?;
+    let serving = serving(&newer)?;
+    let fail_service = newer.maybe("fail_service_ms", &Integer(0, 43_200_000))?;
     let fail_permille = section.optional("fail_permille", &Integer(0, 1000), 0)?;
     let idle = section.optional("idle_ms", &Integer(1, 86_400_000), 1000)?;
     let forward = forward(section.has("forward"), outline, home, section)?;
-    let stop = stopping(start, section)?;
-    let scaling = scaling(section.has("scaler"), outline, home, index, section)?;
-    let fails = failing(section)?;
+    let stop = stopping(start, &newer)?;
+    let scaling = scaling(newer.has("scaler"), outline, home, index, &newer)?;
+    let fails = failing(&newer)?;
     Ok(Role::Consumer(ConsumerSettings {
         start,
         batch,

@@ -1,9 +1,8 @@
 //! Times in a scenario's text: two bounds, or quantiles in their place.
 ghost use Rattle.std.specs.Prelude.{◌≡◌};
-ghost use Rattle.sqs_formats.specs.Distributions.{last_of as the_last_of, least_time, permilles, rises};
-ghost use Rattle.sqs_formats.specs.Keys.{has};
+ghost use Rattle.sqs_formats.specs.Distributions.{last_of as the_last_of, least_time, permilles, rises, time as the_time};
 ghost use Rattle.sim_scenario.specs.Gives.{Returns};
-ghost use Rattle.sim_scenario.specs.Sections.{table_of, time_at};
+ghost use Rattle.sim_scenario.specs.Sections.{table_of};
 
 use crate::fault::ReadError;
 use crate::key_type::{Integer, KeyType};
@@ -112,17 +111,18 @@ impl KeyType for Quantiles {
     }
 }
 
-/// A time: quantiles at the key if it is there, or else the two bounds.
+/// A time: quantiles at the key, or else the two bounds.
 #[tactic(auto, unfolding(sqs_formats::specs::Distributions::time, sqs_formats::specs::Reading::and_then))]
 pub(crate) fn time(
+    by_quantiles: bool,
     key: &str,
     low: &str,
     high: &str,
     section: &Section<'_>,
 ) -> Result<Distribution, ReadError>
-    ensures { Returns result (time_at key.now low.now high.now (table_of section.now)) }
+    ensures { Returns result (the_time by_quantiles key.now low.now high.now (table_of section.now)) }
 {
-    if section.has(key) {
+    if by_quantiles {
         let quantiles = section.required(key, &Quantiles)?;
         Ok(Distribution::Quantiles(quantiles))
     } else {

@@ -1,5 +1,5 @@
 //! What every part of a scenario's text may refer to: all names, and who has them.
-ghost use Rattle.std.specs.Prelude.{◌≡◌, ◌+◌, ◌≤◌, ◌++◌, IfOk, OnOk, map, length};
+ghost use Rattle.std.specs.Prelude.{◌≡◌, ◌+◌, ◌≤◌, ◌++◌, [], if◌then◌else◌, nat_le, IfOk, OnOk, map, length};
 ghost use Rattle.std.specs.List.{enumerate_from, sum, zip};
 ghost use Rattle.toml.specs.View.{view};
 ghost use Rattle.sqs_formats.specs.Keys.{text_in};
@@ -169,6 +169,23 @@ fn scalers_from(
     Ok(scalers)
 }
 
+/// The scalers of a version, which are known from version 3 on.
+fn scalers_of(
+    alloc: Global,
+    version: u64,
+    first: usize,
+    actors: &[Value],
+) -> Result<Vec<ScalerText>, AllocError>
+    requires { first + length actors.now ≤ 32000 }
+    ensures { IfOk result (λ v. v.items
+        ≡ (if nat_le 3 version then scalers_from first (map view actors.now) else [])) }
+{
+    if version < 3 {
+        return Ok(Vec::new(alloc));
+    }
+    scalers_from(alloc, first, actors)
+}
+
 impl Outline {
     ghost use Rattle.std.specs.Prelude.{◌≡◌, ◌+◌, ◌<◌, ◌≤◌, IfOk, get_or, map, length};
     ghost use Rattle.toml.specs.View.{view};
@@ -194,7 +211,7 @@ impl Outline {
         let (names, first_task_place) = all_names(alloc, queues, actors, copies.as_slice(), tasks)?;
         let task_homes = texts(alloc, tasks, "queue")?;
         let dead_letters = texts(alloc, queues, "dead_letter")?;
-        let scalers = scalers_from(alloc, queues.len(), actors)?;
+        let scalers = scalers_of(alloc, version, queues.len(), actors)?;
         let names = Roster::new(alloc, names)?;
         let dead_letters = Roster::new(alloc, dead_letters)?;
         Ok(Outline {

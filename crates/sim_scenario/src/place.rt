@@ -47,6 +47,13 @@ impl Place {
         }
     }
 
+    /// The same table.
+    pub(crate) fn copy(&self) -> Place
+        ensures { result ≡ self.now }
+    {
+        Place { item: self.item }
+    }
+
     /// The place of a key.
     pub(crate) fn of(&self, alloc: Global, key: &str) -> Result<String, AllocError>
         ensures { IfOk result (λ s. string_bytes s ≡ self.now ++ key.now) }

@@ -1,6 +1,6 @@
 //! A producer of a scenario's text.
 ghost use Rattle.std.specs.Prelude.{◌≡◌, IfOk, length, map, nat_le};
-ghost use Rattle.sqs_formats.specs.Actors.{all_producer_keys, gap_keys, is_producer_body, newer_producer_keys, producing, sending as the_sending, sending_keys, stopping};
+ghost use Rattle.sqs_formats.specs.Actors.{all_producer_keys, gap as the_gap, gap_keys, is_producer_body, newer_producer_keys, producing, sending as the_sending, sending_keys, stopping};
 ghost use Rattle.sqs_formats.specs.Groups.{groups as the_groups};
 ghost use Rattle.sqs_formats.specs.Keys.{only};
 ghost use Rattle.sqs_message.specs.Bodies.{filled};
@@ -14,7 +14,7 @@ use crate::key_type::{Boolean, Integer, KeyType};
 use crate::section::{ACTOR_KEYS, Section};
 use sim_clock::Refusal;
 use sqs_message::{Template, has_mark};
-use sqs_model::{Groups, ProducerSettings, Role};
+use sqs_model::{Distribution, Groups, ProducerSettings, Role};
 use std::alloc::{AllocError, Global};
 use toml::Value;
 
@@ -59,10 +59,11 @@ fn known_producer_keys(version: u64, is_fifo: bool, section: &Section<'_>) -> Re
     ensures { HasOnly (all_producer_keys version is_fifo
         (table_of section.now)) section.now result }
 {
-    let gap = gap_keys(section.has_newer(version, "gap"));
-    let own = sending_keys(is_fifo, section.has_newer(version, "key_groups"));
-    let newer = newer_producer_keys(version);
-    section.only(&[ACTOR_KEYS, PRODUCER_KEYS, gap, own, newer])
+    let newer = section.newer(version);
+    let gap = gap_keys(newer.has("gap"));
+    let own = sending_keys(is_fifo, newer.has("key_groups"));
+    let newer_keys = newer_producer_keys(version);
+    section.only(&[ACTOR_KEYS, PRODUCER_KEYS, gap, own, newer_keys])
 }
 
 /// The groups to which a producer sends, in turn or by weight.
@@ -83,12 +84,13 @@ fn groups(by_weight: bool, section: &Section<'_>) -> Result<Groups, ReadError>
 #[tactic(auto, unfolding(sqs_formats::specs::Actors::sending, sqs_formats::specs::Reading::and_then))]
 fn sending(
     is_fifo: bool,
+    by_weight: bool,
     section: &Section<'_>,
 ) -> Result<(Option<Groups>, bool, Option<u64>), ReadError>
-    ensures { Gives (λ s. s) result (the_sending is_fifo (table_of section.now)) }
+    ensures { Gives (λ s. s) result (the_sending is_fifo by_weight (table_of section.now)) }
 {
     if is_fifo {
-        let groups = groups(section.has("key_groups"), section)?;
+        let groups = groups(by_weight, section)?;
         let ids = section.optional("ids", &Boolean, true)?;
         Ok((Some(groups), ids, None))
     } else {
@@ -165,8 +167,17 @@ pub(crate) fn stopping(start: u64, section: &Section<'_>) -> Result<Option<u64>,
     section.maybe("stop_ms", &Integer(start, 2_592_000_000))
 }
 
+/// The time from one send to the next.
+#[tactic(auto, unfolding(sqs_formats::specs::Actors::gap))]
+fn gap(version: u64, section: &Section<'_>) -> Result<Distribution, ReadError>
+    ensures { Gives (λ d. d) result (the_gap version (table_of section.now)) }
+{
+    let by_quantiles = section.newer(version).has("gap");
+    time(by_quantiles, "gap", "gap_min_ms", "gap_max_ms", section)
+}
+
 /// A producer of a queue of a kind.
-#[tactic(auto, unfolding(sqs_formats::specs::Actors::gap, sqs_formats::specs::Reading::and_then))]
+#[tactic(auto, unfolding(sqs_formats::specs::Reading::and_then))]
 pub(crate) fn producer(
     version: u64,
     is_fifo: bool,
@@ -175,12 +186,13 @@ pub(crate) fn producer(
     ensures { Gives (λ p. p) result (producing version is_fifo (table_of section.now)) }
 {
     known_producer_keys(version, is_fifo, section)?;
+    let newer = section.newer(version);
     let count = section.required("count", &Integer(1, 1_000_000))?;
     let start = section.optional("start_ms", &Integer(0, 2_592_000_000), 0)?;
-    let gap = time("gap", "gap_min_ms", "gap_max_ms", section)?;
+    let gap = gap(version, section)?;
     let body = section.required("body", &Body { count })?;
-    let (groups, ids, delay) = sending(is_fifo, section)?;
-    let stop = stopping(start, section)?;
+    let (groups, ids, delay) = sending(is_fifo, newer.has("key_groups"), section)?;
+    let stop = stopping(start, &newer)?;
     Ok(Role::Producer(ProducerSettings {
         count,
         start,

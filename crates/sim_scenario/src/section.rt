@@ -4,7 +4,7 @@ ghost use Rattle.std.specs.List.{list_any};
 ghost use Rattle.std.specs.Str.{bytes_eq};
 ghost use Rattle.toml.specs.Data.{as_table, get_member};
 ghost use Rattle.toml.specs.View.{table_view, view};
-ghost use Rattle.sqs_formats.specs.Keys.{bounds, fault_at, has, has_newer, item_place, item_table, list as a_list, maybe, only, optional, place_of, required, says, text as a_text, text_when};
+ghost use Rattle.sqs_formats.specs.Keys.{at as the_value, bounds, fault_at, has, item_place, item_table, list as a_list, maybe, newer, only, optional, place_of, required, says, text as a_text, text_when};
 ghost use Rattle.sim_scenario.specs.Gives.{Gives, Names, table as the_table};
 ghost use Rattle.sim_scenario.specs.Sections.{table_of};
 
@@ -22,7 +22,8 @@ use toml::{Table, Value};
 pub(crate) struct Section<'a> {
     /// For the places of faults and for what is read.
     pub(crate) alloc: Global,
-    table: &'a Table,
+    /// None if it has no keys.
+    table: Option<&'a Table>,
     place: Place,
 }
 
@@ -89,7 +90,7 @@ impl<'a> Section<'a> {
     {
         Section {
             alloc,
-            table,
+            table: Some(table),
             place: Place::top(),
         }
     }
@@ -107,7 +108,7 @@ impl<'a> Section<'a> {
         match value.as_table() {
             Some(table) => Ok(Section {
                 alloc,
-                table,
+                table: Some(table),
                 place: Place::item(list, number),
             }),
             None => {
@@ -124,25 +125,36 @@ impl<'a> Section<'a> {
         blame(self.alloc, refusal, &self.place, key)
     }
 
+    /// The table in which keys are looked for that are known from version 3 on alone.
+    pub(crate) fn newer(&self, version: u64) -> Section<'a>
+        ensures { table_of result ≡ newer version (table_of self.now) }
+    {
+        Section {
+            alloc: self.alloc,
+            table: if version >= 3 { self.table } else { None },
+            place: self.place.copy(),
+        }
+    }
+
+    /// The value at a key.
+    fn at(&self, key: &str) -> Option<&'a Value>
+        ensures { option_map (λ v. view v.now) result ≡ the_value (table_of self.now) key.now }
+    {
+        member(self.table?, key)
+    }
+
     /// Whether there is a value at a key.
     pub(crate) fn has(&self, key: &str) -> bool
         ensures { result ≡ has (table_of self.now) key.now }
     {
-        member(self.table, key).is_some()
-    }
-
-    /// Whether there is a value at a key that is known from version 3 on.
-    pub(crate) fn has_newer(&self, version: u64, key: &str) -> bool
-        ensures { result ≡ has_newer version (table_of self.now) key.now }
-    {
-        version >= 3 && self.has(key)
+        self.at(key).is_some()
     }
 
     /// Whether the value at a key is this word.
     pub(crate) fn says(&self, key: &str, word: &str) -> bool
         ensures { result ≡ says (table_of self.now) key.now word.now }
     {
-        text_when(member(self.table, key)) == word
+        text_when(self.at(key)) == word
     }
 
     /// Checks that the table has none but the keys in these lists.
@@ -150,7 +162,10 @@ impl<'a> Section<'a> {
         ensures { Gives (λ u. u) result
             (only (flat_map (λ ks. map (λ k. k.now) ks.now) known.now) (table_of self.now)) }
     {
-        known_keys(self.alloc, self.table, &self.place, known)
+        match self.table {
+            Some(table) => known_keys(self.alloc, table, &self.place, known),
+            None => Ok(()),
+        }
     }
 
     /// The text that a value at a key is.
@@ -189,7 +204,7 @@ impl<'a> Section<'a> {
         ensures { Gives (λ vs. map view vs.now) result (required a_list
             (table_of self.now) key.now) }
     {
-        match member(self.table, key) {
+        match self.at(key) {
             Some(value) => self.items(value, key),
             None => Err(self.blame(Refusal::MissingKey, key)),
         }
@@ -201,7 +216,7 @@ impl<'a> Section<'a> {
         ensures { Gives (λ vs. map view vs.now) result (optional [] a_list
             (table_of self.now) key.now) }
     {
-        match member(self.table, key) {
+        match self.at(key) {
             Some(value) => self.items(value, key),
             None => Ok(&[]),
         }
@@ -212,7 +227,7 @@ impl<'a> Section<'a> {
     pub(crate) fn required<K: KeyType>(&self, key: &str, of: &K) -> Result<K::Value, ReadError>
         ensures { Gives (λ x. x) result (required (K.says of.now) (table_of self.now) key.now) }
     {
-        match member(self.table, key) {
+        match self.at(key) {
             Some(value) => of.read(self, value, key),
             None => Err(self.blame(Refusal::MissingKey, key)),
         }
@@ -229,7 +244,7 @@ impl<'a> Section<'a> {
         ensures { Gives (λ x. x) result (optional default (K.says of.now)
             (table_of self.now) key.now) }
     {
-        match member(self.table, key) {
+        match self.at(key) {
             Some(value) => of.read(self, value, key),
             None => Ok(default),
         }
@@ -250,7 +265,7 @@ impl<'a> Section<'a> {
     pub(crate) fn maybe<K: KeyType>(&self, key: &str, of: &K) -> Result<Option<K::Value>, ReadError>
         ensures { Gives (λ x. x) result (maybe (K.says of.now) (table_of self.now) key.now) }
     {
-        match member(self.table, key) {
+        match self.at(key) {
             Some(value) => {
                 let read = of.read(self, value, key)?;
                 Ok(Some(read))

@@ -23,7 +23,7 @@ use Rattle.sqs_model.specs.declared.agents.Scaling.{Scaling}
 use Rattle.sqs_model.specs.declared.agents.Serving.{Serving}
 use Rattle.sqs_model.specs.declared.agents.Serving.TheVariants.{Each, Once}
 use Rattle.sqs_formats.specs.Reading.{needs, ◌>>=◌}
-use Rattle.sqs_formats.specs.Keys.{Says, Table, KeyType, fault_at, place_of, has, has_newer, only, says, text, sized_text, boolean, integer, seconds, one_of, required, optional, maybe}
+use Rattle.sqs_formats.specs.Keys.{Says, Table, KeyType, fault_at, place_of, has, newer, only, says, text, sized_text, boolean, integer, seconds, one_of, required, optional, maybe}
 use Rattle.sqs_formats.specs.Lists.{integers}
 use Rattle.sqs_formats.specs.Distributions.{time, time_keys}
 use Rattle.sqs_formats.specs.Groups.{groups, groups_key}
@@ -116,12 +116,12 @@ sending_keys true by_weight = groups_key by_weight ∷ codes "ids" ∷ []
 sending_keys false by_weight = codes "delay_s" ∷ []
 
 -- those keys of a producer
-unfoldable pub sending : Bool → Table → Says (Option Groups × Bool × Option ℕ)
-sending true t = do
-  groups ← groups (has t (codes "key_groups")) t
+unfoldable pub sending : Bool → Bool → Table → Says (Option Groups × Bool × Option ℕ)
+sending true by_weight t = do
+  groups ← groups by_weight t
   ids ← optional true boolean t (codes "ids")
   Ok (Some groups, ids, None)
-sending false t = do
+sending false by_weight t = do
   delay ← maybe (integer 0 900) t (codes "delay_s")
   Ok (None, false, delay)
 
@@ -130,8 +130,8 @@ abbrev pub producer_keys : List (List ℕ)
 producer_keys = codes "count" ∷ codes "start_ms" ∷ codes "body" ∷ []
 
 -- the time from one send to the next, and its keys
-unfoldable pub gap : Table → Says Distribution
-gap t = time (has t (codes "gap")) (codes "gap") (codes "gap_min_ms") (codes "gap_max_ms") t
+unfoldable pub gap : ℕ → Table → Says Distribution
+gap version t = time (has (newer version t) (codes "gap")) (codes "gap") (codes "gap_min_ms") (codes "gap_max_ms") t
 
 abbrev pub gap_keys : Bool → List (List ℕ)
 gap_keys by_quantiles = time_keys by_quantiles (codes "gap") (codes "gap_min_ms") (codes "gap_max_ms")
@@ -149,8 +149,8 @@ abbrev pub all_producer_keys : ℕ → Bool → Table → List (List ℕ)
 all_producer_keys version fifo t =
     actor_keys
     ++ (producer_keys
-    ++ (gap_keys (has_newer version t (codes "gap"))
-    ++ (sending_keys fifo (has_newer version t (codes "key_groups"))
+    ++ (gap_keys (has (newer version t) (codes "gap"))
+    ++ (sending_keys fifo (has (newer version t) (codes "key_groups"))
     ++ newer_producer_keys version)))
 
 -- an actor that sends messages of its own
@@ -159,10 +159,10 @@ producing version fifo t = do
   known ← only (all_producer_keys version fifo t) t
   count ← required (integer 1 1000000) t (codes "count")
   start ← optional 0 (integer 0 2592000000) t (codes "start_ms")
-  gap ← gap t
+  gap ← gap version t
   body ← required (producer_body count) t (codes "body")
-  own ← sending fifo t
-  stop ← stopping start t
+  own ← sending fifo (has (newer version t) (codes "key_groups")) t
+  stop ← stopping start (newer version t)
   Ok (Producer (record {
     count = count;
     start = start;
@@ -194,8 +194,9 @@ consumer_keys =
     ∷ []
 
 -- the time of a service, and its keys
-unfoldable pub service : Table → Says Distribution
-service t = time (has t (codes "service")) (codes "service") (codes "service_min_ms") (codes "service_max_ms") t
+unfoldable pub service : ℕ → Table → Says Distribution
+service version t =
+    time (has (newer version t) (codes "service")) (codes "service") (codes "service_min_ms") (codes "service_max_ms") t
 
 abbrev pub service_keys : Bool → List (List ℕ)
 service_keys by_quantiles = time_keys by_quantiles (codes "service") (codes "service_min_ms") (codes "service_max_ms")
@@ -240,23 +241,22 @@ abbrev pub jitter_keys : Bool → List (List ℕ)
 jitter_keys true = codes "backoff_jitter" ∷ []
 jitter_keys false = []
 
--- the keys that go with others from version 3 on
+-- the keys that go with others from version 3 on, by the table in which these are looked for
 abbrev pub following_keys : ℕ → Table → List (List ℕ)
 following_keys version t =
-    serving_keys version (has_newer version t (codes "batch_service"))
+    serving_keys version (has t (codes "batch_service"))
     ++ (fail_service_keys version (is_once t) (is_whole t)
-    ++ (outage_keys (has_newer version t (codes "fails_between_ms")) (has_newer version t (codes "fails_from_ms"))
-    ++ (jitter_keys (has_newer version t (codes "backoff_s"))
-    ++ scaling_keys (has_newer version t (codes "scaler")))))
+    ++ (outage_keys (has t (codes "fails_between_ms")) (has t (codes "fails_from_ms"))
+    ++ (jitter_keys (has t (codes "backoff_s")) ++ scaling_keys (has t (codes "scaler")))))
 
 -- all keys of a consumer
 abbrev pub all_consumer_keys : ℕ → Table → List (List ℕ)
 all_consumer_keys version t =
     actor_keys
     ++ (consumer_keys
-    ++ (service_keys (has_newer version t (codes "service"))
+    ++ (service_keys (has (newer version t) (codes "service"))
     ++ (forward_keys version (has t (codes "forward"))
-    ++ (newer_consumer_keys version ++ following_keys version t))))
+    ++ (newer_consumer_keys version ++ following_keys version (newer version t)))))
 
 -- whether one service is of a whole batch
 abbrev pub servings_named : List (List ℕ × Bool)
@@ -299,18 +299,18 @@ consuming o home index t = do
   known ← only (all_consumer_keys o.version t) t
   start ← optional 0 (integer 0 2592000000) t (codes "start_ms")
   batch ← optional 1 (integer 1 10) t (codes "batch")
-  gather ← optional 0 (integer 0 300000) t (codes "gather_ms")
+  gather ← optional 0 (integer 0 300000) (newer o.version t) (codes "gather_ms")
   wait ← optional 0 (integer 0 20) t (codes "wait_s")
   timeout ← maybe (integer 0 43200) t (codes "timeout_s")
-  service ← service t
-  serving ← serving t
-  fail_service ← maybe (integer 0 43200000) t (codes "fail_service_ms")
+  service ← service o.version t
+  serving ← serving (newer o.version t)
+  fail_service ← maybe (integer 0 43200000) (newer o.version t) (codes "fail_service_ms")
   fail_permille ← optional 0 (integer 0 1000) t (codes "fail_permille")
   idle ← optional 1000 (integer 1 86400000) t (codes "idle_ms")
   forward ← forward (has t (codes "forward")) o home t
-  stop ← stopping start t
-  scaling ← scaling (has t (codes "scaler")) o home index t
-  fails ← failing t
+  stop ← stopping start (newer o.version t)
+  scaling ← scaling (has (newer o.version t) (codes "scaler")) o home index (newer o.version t)
+  fails ← failing (newer o.version t)
   Ok (Consumer (record {
     start = start;
     batch = batch;
@@ -395,7 +395,7 @@ fresh_names o index place names = do
 -- the names of an actor's copies; none if it has no copies
 unfoldable pub copies : Outline → ℕ → List ℕ → Table → Says (List (List ℕ))
 copies o index name t = do
-  copies ← optional 0 (integer 1 1000) t (codes "copies")
+  copies ← optional 0 (integer 1 1000) (newer o.version t) (codes "copies")
   fresh_names o index (place_of t (codes "copies")) (copy_names name copies)
 
 -- the agents of an actor: itself, or its copies

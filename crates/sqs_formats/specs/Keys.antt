@@ -39,9 +39,9 @@ is_there (Some d) = true
 abbrev pub has : Table → List ℕ → Bool
 has t key = is_there (at t key)
 
--- whether there is one at a key that is known from version 3 on
-abbrev pub has_newer : ℕ → Table → List ℕ → Bool
-has_newer version t key = nat_le 3 version && has t key
+-- the table in which keys are looked for that are known from version 3 on alone: before, it has none
+abbrev pub newer : ℕ → Table → Table
+newer version t = if nat_le 3 version then t else record { prefix = t.prefix; members = no_members }
 
 -- whether a list has a text
 abbrev pub is_among : List (List ℕ) → List ℕ → Bool

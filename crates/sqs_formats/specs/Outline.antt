@@ -50,7 +50,7 @@ outline_with version queues actors tasks copies =
       tasks = map (text_in (codes "name")) tasks;
       task_homes = map (text_in (codes "queue")) tasks;
       dead_letters = map (text_in (codes "dead_letter")) queues;
-      scalers = scalers_from (length queues) actors;
+      scalers = if nat_le 3 version then scalers_from (length queues) actors else [];
     }
 
 -- how many copies besides the first ones there may be, since actors and tasks are at most 10,000

@@ -1,10 +1,11 @@
-use Rattle.std.proofs.Common.{◌≡◌, ◌++◌, ◌∙◌, ◌+◌, ◌-◌, ℕ, List, ap, arith, codes, length, map, sym}
+use Rattle.std.proofs.Common.{◌≡◌, ◌++◌, ◌∙◌, ◌+◌, ◌-◌, ℕ, List, [], ap, arith, codes, if◌then◌else◌, length, map, nat_le, sym}
 use Rattle.std.proofs.lemmas.List.{length-map}
 use Rattle.toml.specs.Data.{Data}
 use Rattle.toml.specs.View.{view}
 use Rattle.sqs_formats.specs.Copies.{copies_asked, copies_within, names_taken}
 use Rattle.sqs_formats.specs.Keys.{text_in}
 use Rattle.sqs_formats.specs.Outline.{room_beside, scalers_from}
+use Rattle.sqs_formats.specs.declared.scaler_text.ScalerText.{ScalerText}
 use Rattle.sim_scenario.specs.Counted.{copies_before}
 use Rattle.sim_scenario.proofs.Copying.{are_laid, within_few}
 use Rattle.sim_scenario.proofs.outline.Outline.new.Goals as goal
@@ -58,7 +59,8 @@ returns c =
     c.saturating_sub-room.ensures ∙ (λ j. 10000 - (sym (length-map c.args.actors.now view) j + sym (length-map c.args.tasks.now view) j)) in
     let counted : copies ≡ copies_within (room_beside actors tasks) (map (copies_asked c.args.version) actors) =
     c.in_ok-copies.ensures ∙ ap (λ r. copies_within r (map (copies_asked c.args.version) actors)) room in
-    let scalers_at : scalers_from (length c.args.queues.now) actors ≡ scalers_from (length queues) actors = ap (λ n. scalers_from n actors) (sym (length-map c.args.queues.now view)) in
+    let scalers : ℕ → List ScalerText = λ n. if nat_le 3 c.args.version then scalers_from n actors else [] in
+    let scalers_at : scalers (length c.args.queues.now) ≡ scalers (length queues) = ap scalers (sym (length-map c.args.queues.now view)) in
     λ j. record {
       version = c.args.version;
       names = (laid.whole ∙ ap (λ cs. named queues ++ (names_taken (named actors) cs ++ named tasks)) counted) j;
