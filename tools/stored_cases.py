@@ -3,10 +3,11 @@
 
     tools/stored_cases.py FOLDER [NAME..]
 
-A case that runs is a file NAME.toml in a folder of tests/cases, with NAME.out beside it: what standard output gets. The
-cases that are refused stand together, in a file FOLDER.refusals. There each begins with a line `=== NAME: LINE`, where
-LINE is what standard error gets. The text follows, and an empty line behind it. A line "\\ No newline at end of text"
-behind a text takes the end of its last line away.
+A case that runs is a file NAME.toml in a folder of tests/cases, with NAME.out beside it: what standard output gets.
+Or it stands with others in a file FOLDER.cases: its text behind a line `=== NAME`, and what is printed behind a line
+`=== NAME: printed`. The cases that are refused stand together, in a file FOLDER.refusals, each text behind a line
+`=== NAME: LINE`, where LINE is what standard error gets. An empty line stands behind each of these. A line
+"\\ No newline at end of text" behind a text takes the end of its last line away.
 
 The command writes the cases of these folders, or of all, into FOLDER: NAME.toml with NAME.out or NAME.err. Its last
 line says how many.
@@ -23,11 +24,12 @@ from rehearse_tools.console import Fault, Parser, ended, print_text, read_bytes,
 from rehearse_tools.programs import TOP
 
 CASES = os.path.join(TOP, "tests", "cases")
-# The folders by the order in which they are run.
+# The folders and files by the order in which they are run.
 RUNNING = ("worked", "by-hand", "one-queue", "networks", "version-2", "version-3")
 REFUSED = ("faults", "faulty", "faults-3")
-END = ".refusals"
-HEAD = re.compile(rb"^=== ([\w-]+): (refused .*)\n", re.MULTILINE)
+REFUSALS, TOGETHER = ".refusals", ".cases"
+HEAD = re.compile(rb"^=== ([\w-]+)(?:: (refused .*|printed))?\n", re.MULTILINE)
+PRINTED = b"printed"
 CUT = b"\n\\ No newline at end of text\n"
 
 
@@ -56,20 +58,25 @@ class Case(NamedTuple):
         return self.printed.decode().rstrip("\n")
 
 
-def refusals_in(path: str) -> Iterator[Case]:
-    """The cases of a file of refusals."""
+def cases_in(path: str) -> Iterator[Case]:
+    """The cases of a file."""
+    folder, end = os.path.splitext(os.path.basename(path))
     before, *parts = HEAD.split(read_bytes(path))
-    refuse(before or not parts, f"{path} does not begin with a line '=== NAME: refused ..'")
-    folder = os.path.basename(path).removesuffix(END)
+    refuse(before or not parts, f"{path} does not begin with a line '=== NAME{': refused ..' * (end == REFUSALS)}'")
+    given = b""
     for name, line, text in zip(parts[::3], parts[1::3], parts[2::3]):
-        text = text.removesuffix(b"\n")
-        yield Case(folder, name.decode(), text.removesuffix(CUT), line + b"\n", True)
+        text = text.removesuffix(b"\n").removesuffix(CUT)
+        if line is None:
+            given = text
+        else:
+            is_run = line == PRINTED
+            yield Case(folder, name.decode(), given if is_run else text, text if is_run else line + b"\n", not is_run)
 
 
 def cases_at(path: str) -> Iterator[Case]:
-    """The cases of a folder or of a file of refusals, in the order of their names."""
-    if path.endswith(END):
-        yield from refusals_in(path)
+    """The cases of a folder or of a file, in the order of their names."""
+    if path.endswith((REFUSALS, TOGETHER)):
+        yield from cases_in(path)
         return
     try:
         names = sorted(os.listdir(path))
@@ -83,9 +90,9 @@ def cases_at(path: str) -> Iterator[Case]:
 
 
 def stored(*folders: str) -> list[Case]:
-    """The stored cases of some folders, or of all."""
-    return [case for folder in folders or RUNNING + REFUSED
-            for case in cases_at(os.path.join(CASES, folder + (END if folder in REFUSED else "")))]
+    """The stored cases of some folders or files, or of all."""
+    return [case for folder in folders or RUNNING + REFUSED for end in ("", REFUSALS, TOGETHER)
+            if os.path.exists(path := os.path.join(CASES, folder + end)) for case in cases_at(path)]
 
 
 def put(case: Case, folder: str) -> str:

@@ -13,7 +13,7 @@ from test_runs import OVERLOADED, random_scenario
 from tool import HEADER, PROGRAM, ToolCase, ended, log_at, needs_program, printed
 from scenario_texts import consumer, producer, queue_of, scenario_of, script, task
 from rehearse_tools.figures import COLUMNS as OF_FIGURES
-from rehearse_tools.figures import Figures
+from rehearse_tools.figures import Figures, bounds_of, figures_in
 from rehearse_tools.requirements import Requirement
 from rehearse_tools.runs import ALL_COLUMNS, COLUMNS, Ages, run
 from rehearse_tools.statistics import Interval
@@ -38,9 +38,9 @@ class ByHand(ToolCase):
         """By queue the columns of the figures of a log, and their bounds."""
         figures, scenario = Figures(first, 20_000, {}, **wanted), self.write("s.toml", SCENARIO)
         words = ["figures", *figures.words()[1:], scenario, self.write("run.csv", text)]
-        found = figures.found_in(csv.reader(io.StringIO(printed(*words))), ["a", "d"]) or {}
-        return ({name: dict(zip(OF_FIGURES, texts)) for name, (texts, _) in found.items()},
-                {name: bounds for name, (_, bounds) in found.items()})
+        figured = figures_in(csv.reader(io.StringIO(printed(*words))))
+        return ({name: dict(zip(OF_FIGURES, figures.columns_of(name, figured))) for name in ("a", "d")},
+                {name: bounds_of(figured[name]) for name in ("a", "d")})
 
     def test_new_and_moved_messages(self) -> None:
         found, bounds = self.found()
@@ -117,7 +117,7 @@ class Random(ToolCase):
         moved = backlogs = 0
         for seed in range(40):
             text = random_scenario(seed)
-            ran = run([str(PROGRAM), "run"], text, None, figures=Figures(0, 90_000, {}, 100_000))
+            ran = run([str(PROGRAM), "run"], text, Figures(0, 90_000, {}, 100_000))
             summary, = read_runs([self.write("run.out", printed("run", "--quiet", text=text))], Reading())
             for name, *texts in ran.records or []:
                 numbers, values = dict(zip(ALL_COLUMNS, texts)), summary.queues[name].values()

@@ -165,7 +165,7 @@ class Random(unittest.TestCase):
             for record in records:
                 if record[:2] == ["final", "b"]:
                     door = doors.origins.there[record[2]][0]
-                    is_open = any(not doors.forwards.edges[edge].keeps_order for edge in door.doubts)
+                    is_open = bool(door.doubts & doors.open_bits())
                     wrong += is_open and door.at != sent[record[9]]
                     known += not is_open
                     if not is_open:

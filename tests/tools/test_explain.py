@@ -5,7 +5,7 @@ import io
 import os
 import unittest
 
-from tool import HERE, ROOT, TOOLS, ToolCase, module_of, needs_program, text_at
+from tool import HERE, ROOT, ToolCase, module_of, needs_program, text_at
 from rehearse_tools.console import toml_of
 from rehearse_tools.positions import Positions
 from stored_cases import REFUSED, put, stored
@@ -239,14 +239,9 @@ class Explain(ToolCase):
                 self.assertNotIn("?:", lines[0])
 
     @needs_program
-    def test_a_good_scenario_and_the_example_of_the_documents(self):
+    def test_a_good_scenario(self):
         example = os.path.join(ROOT, "examples", "first.toml")
         self.assertEqual(self.run_tool("explain", example), (0, "ok queues=1 actors=1 tasks=0 least=60001\n", ""))
-        text = text_at(TOOLS, "README.md")
-        data = text_at(example).replace("visibility_s = 5", "visibility_s = 50000").encode()
-        self.assertIn(f"```\n{self.run_tool('explain', '-', stdin=data)[1]}```\n", text)
-        example = os.path.join(ROOT, "examples", "dead_letters.toml")
-        self.assertIn(f"```\n$ tools/explain examples/dead_letters.toml\n{self.output('explain', example)}```\n", text)
 
 
 def paths_in(value, path=()):

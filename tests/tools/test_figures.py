@@ -14,7 +14,7 @@ from test_summary import LOG, PARTS
 from tool import PROGRAM, ToolCase, log_at, needs_program, printed, text_at
 from scenario_texts import consumer, queue_of, scenario_of, script
 from rehearse_tools import runs
-from rehearse_tools.figures import AGES, COLUMNS, OF_QUEUE, Figures
+from rehearse_tools.figures import AGES, COLUMNS, OF_QUEUE, OF_REPORT, Figures, bounds_of, figures_in
 from rehearse_tools.scenarios import consumers_of, names_of, parsed
 from rehearse_tools.statistics import Interval
 from figures import Fields, Stretch, busy, depths, flights, peak, tries
@@ -27,7 +27,7 @@ FIGURES = log_at("batch.figures")
 CONSUMERS = {"a": ["left", "right", "third"]}
 # Figures that are made up, each of another number.
 MADE_UP = ["requests", "backlog_gone_at_ms", "backlog_since_ms", *(f"{age}_ms" for age in AGES.values()),
-           *(f"{age}_{bound}_ms" for age in AGES.values() for bound in ("least", "most"))]
+           *(f"{age}_{bound}_ms" for age in (*AGES.values(), *OF_REPORT.values()) for bound in ("least", "most"))]
 FIGURES += "".join(f"figure,{queue},{name},{number}\n" for queue, start in (("a", 100), ("d", 200))
                    for number, name in enumerate(MADE_UP, start) if name != "backlog_since_ms")
 FIGURES += "figure,a,backlog_since_ms,\nfigure,d,backlog_since_ms,7\n"
@@ -66,7 +66,7 @@ class Readers(ToolCase):
     def test_damage(self) -> None:
         """A line that is cut, or has other fields, is damage here as elsewhere."""
         for damaged, told in ((FIGURES[:-1], " ends within a line"),
-                              (FIGURES + "figure,a,sent\n", " line 99 is no record of the part figure after a log")):
+                              (FIGURES + "figure,a,sent\n", " line 115 is no record of the part figure after a log")):
             path = self.write("run.txt", LOG + PARTS + damaged)
             self.assert_fault(self.run_tool("summary", path), f"summary: {path}{told}")
 
@@ -85,20 +85,18 @@ class Readers(ToolCase):
 class ByHand(unittest.TestCase):
     def test_columns(self) -> None:
         """Of 62.5 s left is busy for 4.5 s, which is 7.2 %. Nothing consumes d."""
-        figures, counting = Figures(0, 62_499, CONSUMERS), runs.Counting(0, 62_499, runs.Extra(with_figures=True))
-        by_report, bounds = runs.report_of(io.StringIO(LOG + PARTS + FIGURES), figures) or ([], {})
-        by_log, ages = runs.reported(io.StringIO(LOG + PARTS + FIGURES), counting, figures) or ([], {})
-        self.assertEqual(by_report, by_log)
-        self.assertEqual({name: found.bounds for name, found in bounds.items()},
-                         {name: found.bounds for name, found in ages.items()})
+        figures, counting = Figures(0, 62_499, CONSUMERS), runs.Counting(0, 62_499)
+        by_report = runs.report_of(io.StringIO(LOG + PARTS + FIGURES), figures)
+        by_log, ages, is_open = runs.reported(io.StringIO(LOG + PARTS + FIGURES), counting, figures) or ([], {}, True)
+        self.assertEqual(by_report, (by_log, ages, is_open))
         self.assertEqual([[record[0], *record[-6:]] for record in by_log],
                          [["a", "200", "3", "300", "1", "2", "7.2"], ["d", "5220", "0", "0", "0", "0", ""]])
         first = 1 + len(runs.ALL_COLUMNS) - len(COLUMNS)
         self.assertEqual([record[first:-6] for record in by_log],
                          [["100", "", "101", "103", "104", "105", "106", "107", "108", "109"],
                           ["200", "", "", "203", "204", "205", "206", "207", "208", "209"]])
-        self.assertEqual([ages["a"].bounds[column] for column in AGES],
-                         [Interval(low, low + 1) for low in range(110, 124, 2)])
+        self.assertEqual([ages["a"].bounds[column] for column in (*AGES, *OF_REPORT)],
+                         [Interval(low, low + 1) for low in range(110, 132, 2)])
 
     def test_bounds_and_moments_that_are_open(self) -> None:
         """No bound above, no bound below, no backlog; and what a million requests cost."""
@@ -109,16 +107,16 @@ class ByHand(unittest.TestCase):
             text = text.replace(f"figure,a,{line}\n", f"figure,a,{other}\n")
         figures = Figures(0, 62_499, CONSUMERS, 1_000, 0.5)
         self.assertEqual(figures.words(), ["--figures", "--from", "0", "--window-figures", "1000"])
-        texts, bounds = (figures.found_in(csv.reader(io.StringIO(text)), ["a"]) or {})["a"]
-        self.assertEqual(bounds["new_age_p50"], Interval(0, math.inf))
-        self.assertEqual(texts[1:3], ["0.00005", "0"])
+        figured = figures_in(csv.reader(io.StringIO(text)))
+        self.assertEqual(bounds_of(figured["a"])["new_age_p50"], Interval(0, math.inf))
+        self.assertEqual(figures.columns_of("a", figured)[1:3], ["0.00005", "0"])
 
     def test_shares_of_time(self) -> None:
         """They are rounded down, so that 100 is all the time."""
         for length, share in ((4500, "100"), (4501, "99.97"), (7000, "64.28"), (45_000_000, "0.01"), (10**9, "0")):
             figures = Figures(10, 9 + length, CONSUMERS)
-            found = figures.found_in(csv.reader(io.StringIO(FIGURES)), ["a"]) or {}
-            self.assertEqual(found["a"][0][-6:], ["200", "3", "300", "1", "2", share])
+            found = figures.columns_of("a", figures_in(csv.reader(io.StringIO(FIGURES))))
+            self.assertEqual(found[-6:], ["200", "3", "300", "1", "2", share])
 
     def test_figures_that_are_not_there(self) -> None:
         """A run whose figures are cut has no report: each of these lines is needed but the first and the counts."""
@@ -147,7 +145,7 @@ class Sweeps(ToolCase):
             self.assertEqual(found, {"q": wanted, "idle": f"{first},0,{first},0,0,"}, words)
 
     def test_no_log_is_read_for_them(self) -> None:
-        """It is read for other columns, and where something is cut off at the beginning."""
+        """It is read for ages since the first send alone, also where something is cut off at the beginning."""
         path, asked = self.write("program", f'#!/bin/sh\necho "$*" >> {self.path("asked")}\nexec {PROGRAM} "$@"\n'), []
         os.chmod(path, 0o700)
         for words in (NAMES, f"sends,{NAMES}", f"{NAMES},requests", f"{NAMES},door_age_p95", "sends"):
@@ -155,7 +153,8 @@ class Sweeps(ToolCase):
                 self.rows("--columns", words, *more, "--program", path)
                 asked.append(text_at(self.path("asked")).splitlines()[-1].partition(" --scripts ")[2].partition(" ")[2])
         whole, later = (f"--figures --from {first} --window-figures 300000" for first in (0, 2000))
-        self.assertEqual(asked, [f"{whole} --log /dev/null", later] * 3 + [whole, later, "--log /dev/null", ""])
+        self.assertEqual(asked, [f"{words} --log /dev/null" for words in (whole, later)] * 3 + [
+            whole, later, "--log /dev/null", f"{later} --log /dev/null"])
 
     def test_requirements(self) -> None:
         """A share of time is in percent, and a moment is a time."""
@@ -198,7 +197,7 @@ class Sweeps(ToolCase):
             text, first = random_scenario(seed), 0 if seed % 2 else 7_001
             scenario = parsed(text, "random")
             end, consumers = scenario["horizon"], consumers_of(scenario)
-            ran = runs.run(command, text, None, figures=Figures(first, end, consumers))
+            ran = runs.run(command, text, Figures(first, end, consumers))
             done = subprocess.run([*command, "--quiet"], input=text, capture_output=True, text=True, check=True)
             lines = done.stdout.partition("\nfinal,queue,")[0].splitlines()[1:]
             rows, stretch = [Fields(*row) for row in csv.reader(lines)], Stretch(first, end + 1)

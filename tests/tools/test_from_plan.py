@@ -7,7 +7,7 @@ import os
 import random
 import sys
 
-from tool import PROGRAM, ROOT, TOOLS, ToolCase, module_of, needs_program, printed, ran, text_at
+from tool import PROGRAM, TOOLS, ToolCase, module_of, needs_program, printed, ran, text_at
 from rehearse_tools.console import Fault, toml_of
 
 ARN = "arn:aws:sqs:eu-central-1:123456789012:"
@@ -410,14 +410,6 @@ class FromPlan(ToolCase):
             if wanted:
                 self.assertEqual(err, f"{called or 'from-plan'}: the library yaml is missing: Debian's package "
                                  f"python3-yaml has it for Debian's python3, and {wanted} installs it\n")
-
-    def test_example_of_the_documents(self):
-        text = text_at(TOOLS, "README.md")
-        start = text.index("Resources:\n")
-        template = text[start:text.index("```", start)]
-        self.assertEqual(text_at(ROOT, "examples", "template.yaml"), template)
-        made = self.made(template)
-        self.assertIn("```\n" + made[1:made.index("\n[[queue]]", 2)] + "```\n", text)
 
     @needs_program
     def test_what_is_made_runs(self):

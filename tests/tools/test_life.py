@@ -1,6 +1,6 @@
 """Tests tools/life on logs written by hand from the formats of the log."""
 
-from tool import HEADER, TOOLS, ToolCase, ended, log_at, needs_program, open_end, text_at
+from tool import HEADER, ToolCase, ended, log_at, open_end
 
 LOG = log_at("life.log")
 STORY = log_at("life.txt")
@@ -89,11 +89,6 @@ In the end: expired from f.fifo at 60000 ms
                          "In the end: on its way from a to d since 4000 ms")
         self.assertEqual(self.last_line(ended(LOG, FINAL), "o-1-1"),
                          "In the end: in flight in d until 90000 ms; times received there: 3")
-
-    @needs_program
-    def test_story_of_the_documents(self):
-        _, out, _ = self.run_tool("life", self.log_of_example("dead_letters.toml"), "o-0-4")
-        self.assertIn(f"```\n{out}```\n", text_at(TOOLS, "README.md"))
 
     def test_faults(self):
         lines = LOG.splitlines(True)

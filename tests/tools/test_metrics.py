@@ -2,7 +2,7 @@
 import json
 import os
 
-from tool import HEADER, ROOT, TOOLS, ToolCase, ended, log_at, needs_program, text_at
+from tool import HEADER, ROOT, ToolCase, ended, log_at, text_at
 
 # In the first minute m-0-0 is sent and received; m-0-1 is sent with a delay that ends in the third minute; a repeat and
 # an empty poll. In the second m-0-0 goes to d, where it arrives in the same minute. In the third m-0-1 becomes visible,
@@ -157,13 +157,3 @@ class Metrics(ToolCase):
     def test_hostile_logs(self):
         self.assert_hostile_logs("metrics")
 
-    @needs_program
-    def test_example_of_the_documents(self):
-        log = self.log_of_example("dead_letters.toml")
-        _, rows, _ = self.run_tool("metrics", log, *SCENARIO, "--queue", "orders")
-        _, alarms, _ = self.run_tool("metrics", log, *SCENARIO, "--alarm", ALARM)
-        text = text_at(TOOLS, "README.md")
-        for line in rows.splitlines()[:3]:
-            fields = line.split(",")
-            self.assertIn(f"\n{','.join(fields[:4])}, .. ,{fields[-1]}\n", text)
-        self.assertIn(alarms, text)

@@ -1,5 +1,4 @@
 """Tests tools/picture: what it counts, by hand and by the stored reports, and that no two texts of it overlap."""
-import glob
 import itertools
 import os
 import re
@@ -163,10 +162,9 @@ class Counts(ToolCase):
     def test_stored_samples(self):
         """Where a sample is the only row of its queue at its time, the counts at that time are the sample's."""
         compared = 0
-        for path in glob.glob(os.path.join(ROOT, "tests", "cases", "*", "*.out")):
-            with open(path, newline="", encoding="utf-8") as file:
-                if ",sample,ok," not in file.read():
-                    continue
+        for path, log, *_ in cases():
+            if ",sample,ok," not in log:
+                continue
             found, alone = histories_of(path), {}
             for at, name, _, call, *_, detail in Log(path).rows():
                 alone.setdefault((name, at), []).append((call, detail))

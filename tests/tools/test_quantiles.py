@@ -13,7 +13,7 @@ import random
 import statistics
 import unittest
 
-from tool import TOOLS, ToolCase, module_of, needs_program, printed, text_at
+from tool import ToolCase, module_of, needs_program, printed
 from rehearse_tools.console import toml_of
 
 quantiles = module_of("quantiles")
@@ -243,11 +243,6 @@ class Quantiles(ToolCase):
             path = self.write("s.toml", 'version = 3\nhorizon = 9\n[[queue]]\nname = "q"\n[[actor]]\nname = "c"\n'
                                         f'kind = "consumer"\nqueue = "q"\n{out}idle_ms = 5\n')
             self.assertEqual(printed("check", "--v3", path), "ok queues=1 actors=1 tasks=0 least=10\n")
-
-    def test_example_of_the_documents(self):
-        text = text_at(TOOLS, "README.md")
-        words = "--p50", "120", "--p99", "900", "--max", "5000", "--pairs", "9"
-        self.assertIn(f"$ tools/quantiles {' '.join(words)}\n{self.run_tool('quantiles', *words)[1]}", text)
 
 
 if __name__ == "__main__":

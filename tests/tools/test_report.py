@@ -15,6 +15,7 @@ from tool import HEADERS, LIMIT, PROGRAM, ROOT, TOOLS, ToolCase, module_of, need
 from scenario_texts import producer, queue_of, scenario_of
 from figures import ACTIONS, NAMES
 from rehearse_tools.console import Fault, check_library
+from rehearse_tools.figures import AGES, OF_REPORT
 from rehearse_tools.histories import History
 
 try:
@@ -48,7 +49,8 @@ FIGURES = {**dict.fromkeys([*NAMES, *ACTIONS.values(), "refused_requests", "left
            "DeleteMessage": 1, "requests": 4, "depth_greatest": 2, "depth_greatest_at_ms": 1_000,
            **dict.fromkeys(("age_sum_ms", "age_p50_ms", "age_p95_ms", "age_p99_ms", "age_greatest_ms", "new_age_p50_ms",
                             "new_age_p95_ms"), 2_000),
-           **dict.fromkeys(("moved_age_p50_ms", "moved_age_p95_ms", "backlog_gone_at_ms", "backlog_since_ms"), "")}
+           **dict.fromkeys(("moved_age_p50_ms", "moved_age_p95_ms", "backlog_gone_at_ms", "backlog_since_ms"), ""),
+           **{f"{age}_{bound}_ms": 2_000 for age in (*OF_REPORT.values(), *AGES.values()) for bound in ("least", "most")}}
 RUN += "figure,of,name,value\n" + "".join(f"figure,q,{name},{number}\n" for name, number in FIGURES.items())
 DEAD_LETTERS = scenario_of(1_000, queue_of("q", dead_letter="d", max_receives=1, latency_ms=10), queue_of("d"),
                         producer("p", "q", 1, 1))

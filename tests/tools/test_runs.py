@@ -1,5 +1,5 @@
-"""Tests what is counted of a run: by the stored cases and random scenarios against the program's own reports, and
-between two moments by logs written by hand."""
+"""Tests the report of a run, also from a moment on: by the program's own reports of random scenarios, and by what is
+counted from logs here."""
 from __future__ import annotations
 
 import csv
@@ -10,18 +10,23 @@ import random
 import re
 import subprocess
 import unittest
-from itertools import chain
+from itertools import accumulate, chain
 from typing import Any
 
 from test_summary import LOG, PARTS, WAYS, cases
-from tool import PROGRAM, ToolCase, needs_program, printed, text_at
+from tool import COUNTED, PROGRAM, ToolCase, needs_program, printed, text_at
 from scenario_texts import consumer, producer, queue_of, scenario_of, script, task
 from rehearse_tools import runs
+from rehearse_tools.console import csv_text
+from rehearse_tools.figures import Figures, summed, text_of
+from rehearse_tools.logs import FIGURE_HEADER, FIGURES_OF, PLACES, REFUSALS
 from rehearse_tools.requirements import Requirement
 from rehearse_tools.runs import COLUMNS, Ages
+from rehearse_tools.statistics import Interval
 from rehearse_tools.summaries import Reading, read_runs
 
 SCENARIOS = 60
+COMES, LEAVES = ("send,new", "arrive,new"), ("delete,deleted", "expire,expired", "redrive,out", "move,out")
 # Columns whose numbers in two halves of a run add up to those of the whole.
 ADDED = [*COLUMNS[:COLUMNS.index("depth_max")], "age_sum"]
 # Three messages a second come in for a worker that does one in three seconds: most are left.
@@ -29,10 +34,25 @@ OVERLOADED = scenario_of(60_000, queue_of("q"), producer("p", "q", 9_000, (1, 1_
 
 
 def counts_of(text: str, first: int) -> dict[str, dict[str, str]]:
-    """The columns of each queue that are counted from a moment on in what a run prints."""
-    found = runs.reported(io.StringIO(text), runs.Counting(first, 0))
-    assert found is not None
-    return {name: dict(zip(COLUMNS, numbers)) for name, *numbers in found[0]}
+    """The columns of each queue from a moment on, as they are counted here from what a run prints."""
+    log, _, rest = text.partition("\nfinal,queue,")
+    rows = [(int(at), name, f"{call},{answer}", answer, detail)
+            for at, name, _, call, answer, *_, detail in csv.reader(log.splitlines()[1:])]
+    finals = [record for record in csv.reader(rest.splitlines()) if record[0] == "final"]
+    found = {}
+    for name in re.findall("^report,(.*?),[0-9]", rest, re.M):
+        own = [row for row in rows if row[1] == name]
+        inside = [row for row in own if row[0] >= first]
+        said = [row[2] for row in inside]
+        kinds = [said.count(kind) + (kind == "send,repeat") * said.count("arrive,repeat") for kind in COUNTED]
+        refused = [sum(row[3] == refusal for row in inside) for refusal in REFUSALS]
+        depths = [0, *accumulate((row[2] in COMES) - (row[2] in LEAVES) for row in own)]
+        places = [sum(record[1] == name and record[4] == place for record in finals) for place in PLACES]
+        ages = sorted(int(row[4]) for row in inside if row[2] == "delete,deleted")
+        ranks = [ages[-(-percent * len(ages) // 100) - 1] if ages else "" for percent in (100, 50, 95, 99)]
+        numbers = *kinds, *refused, max(depths[len(own) - len(inside):]), *places, sum(ages), *ranks
+        found[name] = dict(zip(COLUMNS, map(str, numbers)))
+    return found
 
 
 def random_scenario(seed: int) -> str:
@@ -57,46 +77,54 @@ def random_scenario(seed: int) -> str:
         for copy in range(chance.randint(0, 3)):
             parts.append(consumer(f"c{number}-{copy}", name, (least, 2 * least), batch=chance.randint(1, 10),
                                   wait_s=chance.choice([0, 2]), fail_permille=chance.choice([0, 300]), **forward))
-    operator = script("op", names[-1], "9000,start,,,,,,,,,t", "9001,receive,,,,,,10,,,", "9500,start,,,,,,,,,t")
+    operator = script("op", names[-1], "6000,start,,,,,,,,,t", "6001,cancel,,,,,,,,,t", "6002,cancel,,,,,,,,,t",
+                      "9000,start,,,,,,,,,t", "9001,receive,,,,,,10,,,", "9500,start,,,,,,,,,t", "9600,cancel,,,,,,,,,t",
+                      "9601,cancel,,,,,,,,,t", "9700,start,,,,,,,,,t")
     return scenario_of(horizon, *parts, operator, task("t", names[-1], to=names[0], per_second=5, latency_ms=20), seed=seed)
 
 
+@needs_program
 class Whole(unittest.TestCase):
     def test_stored_cases(self) -> None:
-        """Where nothing is cut, all columns are those of the program's reports."""
+        """Where nothing is cut, all columns that figures have are those of the program's reports."""
         number = 0
-        for number, (path, log, rest, records) in enumerate(cases(), 1):
-            with self.subTest(path=path):
-                wanted = {record["queue"]: {column: record[column] for column in COLUMNS} for record in records}
-                self.assertEqual(counts_of(log + rest, 0), wanted)
+        for number, (path, _, _, records) in enumerate(cases(), 1):
+            run, = read_runs([path])
+            for record in records:
+                figures = run.queues[record["queue"]].figures
+                with self.subTest(path=path, queue=record["queue"]):
+                    self.assertEqual({column: text_of(summed(figures[name] for name in names))
+                                      for column, names in FIGURES_OF.items()},
+                                     {column: record[column] for column in FIGURES_OF})
         self.assertGreater(number, 100)
 
-    @needs_program
     def test_random_scenarios(self) -> None:
-        """All columns are the program's; two halves add up to the whole; an end is that of a run with this horizon."""
-        command, are_rich = [PROGRAM, "run", "--scripts", "."], 0
+        """From a moment on all columns are those counted here, by the program's figures and by the log as well; before
+        it, they add up to the whole with those of a run that ends then."""
+        command, half, are_rich, are_open = [str(PROGRAM), "run", "--scripts", "."], 7_001, 0, 0
         for seed in range(SCENARIOS):
             text = random_scenario(seed)
+            figures, counting = Figures(half, 0, has_columns=False), runs.Counting(half, 0)
             with self.subTest(seed=seed):
-                whole = runs.run(command, text, None)
-                self.assertEqual(whole.status, 0, whole.told)
-                self.assertEqual(runs.run(command, text, runs.Counting(0, 0)).records, whole.records)
-                half = 7_001
-                ended = text.replace("\nhorizon = ", f"\nhorizon = {half - 1} # ")
-                first = runs.run(command, ended, runs.Counting(0, 0)).records
-                second = runs.run(command, text, runs.Counting(half, 0)).records
-                of_each = first or [], second or [], whole.records or []
-                self.assertEqual(len({len(records) for records in of_each}), 1)
-                for of_first, of_second, of_whole in zip(*of_each):
-                    numbers = [dict(zip(COLUMNS, record[1:])) for record in (of_first, of_second, of_whole)]
+                whole, later = (runs.run(command, text, *more) for more in ((), (figures, counting)))
+                by_log = runs.run(command, text, figures, counting._replace(with_doors=True))
+                self.assertEqual((whole.status, later.status, later.records), (0, 0, by_log.records), whole.told)
+                output = printed("run", "--quiet", "--scripts", ".", text=text)
+                self.assertEqual(tables_of(later), counts_of(output, half))
+                self.assertEqual(tables_of(whole), counts_of(output, 0))
+                first = runs.run(command, text.replace("\nhorizon = ", f"\nhorizon = {half - 1} # "))
+                for numbers in zip(*(tables_of(ran).values() for ran in (first, later, whole))):
                     for column in ADDED:
-                        self.assertEqual(sum(int(record[column]) for record in numbers[:2]), int(numbers[2][column]))
-                    self.assertEqual(max(int(record["depth_max"]) for record in numbers[:2]),
-                                     int(numbers[2]["depth_max"]))
-                    self.assertEqual([numbers[1][place] for place in runs.PLACES.values()],
-                                     [numbers[2][place] for place in runs.PLACES.values()])
+                        self.assertEqual(sum(int(of[column]) for of in numbers[:2]), int(numbers[2][column]))
                     are_rich += int(numbers[2]["redrives"]) > 0
+                    are_open += any(int(numbers[0][name]) and int(numbers[1][name]) for name in REFUSALS)
         self.assertGreater(are_rich, SCENARIOS // 4)
+        self.assertGreater(are_open, 3)
+
+
+def tables_of(ran: runs.Ran) -> dict[str, dict[str, str]]:
+    """The columns of each queue in a run's report."""
+    return {name: dict(zip(COLUMNS, numbers)) for name, *numbers in ran.records or []}
 
 
 class Cut(ToolCase):
@@ -105,21 +133,33 @@ class Cut(ToolCase):
         text = LOG + PARTS
         for end in range(len(text) + 1):
             for first, is_extra in ((0, False), (2_500, True)):
-                counting = runs.Counting(first, 60_000, runs.Extra(is_extra, is_extra))
+                counting = runs.Counting(first, 60_000, is_extra)
                 found = runs.reported(io.StringIO(text[:end]), counting)
                 self.assertEqual(found is None, end < len(text), end)
 
+    def told(self, first: int) -> dict[str, dict[str, str]]:
+        """The columns of each queue of LOG from a moment on, by figures that the program counts of it."""
+        run, = read_runs([self.write("run.txt", LOG + PARTS)], Reading(first))
+        behind = [["figure", name, figure, text_of(number)] for name, queue in run.queues.items()
+                  for figure, number in queue.figures.items()]
+        text = LOG + PARTS + csv_text([FIGURE_HEADER, *behind])
+        found = runs.reported(io.StringIO(text), runs.Counting(first, 0), Figures(first, 0, has_columns=False))
+        assert found is not None
+        return {name: dict(zip(COLUMNS, numbers)) for name, *numbers in found.records}
+
+    @needs_program
     def test_from_a_moment_on(self) -> None:
         """From 2.5 s on queue a has a delete of a message that is kept, two deletes, a receive and what follows."""
-        found = counts_of(LOG + PARTS, 2_500)
+        self.assertEqual(self.told(2_500), counts_of(LOG + PARTS, 2_500))
+        found = self.told(2_500)
         self.assertEqual({column: number for column, number in found["a"].items() if number not in ("0", "")},
                          {"receives": "1", "empties": "2", "deletes": "2", "redrives": "1", "MessageNotInflight": "1",
                           "depth_max": "3", "age_sum": "5300", "age_max": "2800", "age_p50": "2500", "age_p95": "2800",
                           "age_p99": "2800"})
-        self.assertEqual(counts_of(LOG + PARTS, 2_601)["a"]["age_sum"], "2800")
-        self.assertEqual(counts_of(LOG + PARTS, 3_001)["a"]["depth_max"], "1")
-        self.assertEqual(counts_of(LOG + PARTS, 60_201)["d"], {**dict.fromkeys(COLUMNS, "0"), "age_max": "",
-                                                               "age_p50": "", "age_p95": "", "age_p99": ""})
+        self.assertEqual(self.told(2_601)["a"]["age_sum"], "2800")
+        self.assertEqual(self.told(3_001)["a"]["depth_max"], "1")
+        self.assertEqual(self.told(60_200)["d"], {**dict.fromkeys(COLUMNS, "0"), "expiries": "1", "depth_max": "1",
+                                                  "age_max": "", "age_p50": "", "age_p95": "", "age_p99": ""})
 
     def queues(self, text: str, *words: str) -> dict[str, dict[str, Any]]:
         out = self.output("summary", "--json", self.write("run.txt", text), *words)
@@ -177,7 +217,7 @@ class Sweeps(ToolCase):
         self.scenario = self.write("o.toml", OVERLOADED)
 
     def test_columns_of_a_sweep(self) -> None:
-        """They are those of the log that the program writes for a run that ends then."""
+        """They are those of the log that the program writes for a run that ends then, as they are counted here."""
         words = "--vary", "seed=1..3", "--from", "10s", "--to", "40s"
         out, _ = self.ends(0, self.run_tool("sweep", self.scenario, *words))
         for seed, row in zip("123", csv.DictReader(io.StringIO(out))):
@@ -257,10 +297,10 @@ class Left(unittest.TestCase):
             found[column] = sorted(ages)[-(-share * len(ages) // 100) - 1]
         return [str(found[column]) for column in COLUMNS]
 
-    def word(self, text: str, ages: list[int], left: int, known: list[int] | None = None) -> str:
-        """What is said of a requirement; `known` are the ages of those left where the log was read."""
-        counts = {age: ages.count(age) for age in ages}
-        failure = Requirement(text).failure(self.numbers(ages, left), None if known is None else Ages(counts, known))
+    def word(self, text: str, ages: list[int], left: int, bounds: Interval | None = None) -> str:
+        """What is said of a requirement; `bounds` are those of its column where figures tell them."""
+        known = Ages({Requirement(text).column: bounds}) if bounds else None
+        failure = Requirement(text).failure(self.numbers(ages, left), known)
         return failure.word if failure else "holds"
 
     def test_the_report_decides(self) -> None:
@@ -273,16 +313,16 @@ class Left(unittest.TestCase):
             self.assertEqual(self.word(text, ages, 1), word, text)
             self.assertEqual(Requirement(text).is_open(self.numbers(ages, 1)), word == "is undecided")
 
-    def test_the_log_decides(self) -> None:
-        """The one that is left is at least 1 s old, so that rank 96 of 101 is 95 or 96 s."""
+    def test_the_bounds_decide(self) -> None:
+        """The one that is left is at least 1 s old, so that rank 96 of 101 is 95 or 96 s; or it is at least 99 s old."""
         ages = [1_000 * age for age in range(1, 101)]
-        self.assertEqual(self.word("q.age_p95<=96s", ages, 1, [1_000]), "holds")
-        self.assertEqual(self.word("q.age_p95<96s", ages, 1, [1_000]), "is undecided")
-        self.assertEqual(self.word("q.age_p95<96s", ages, 1, [99_000]), "fails")
+        for text, low, word in (("q.age_p95<=96s", 95_000, "holds"), ("q.age_p95<96s", 95_000, "is undecided"),
+                                ("q.age_p95<96s", 96_000, "fails")):
+            self.assertEqual(self.word(text, ages, 1, Interval(low, 96_000)), word)
 
     def test_a_reason_tells_the_share(self) -> None:
         """Two of five are left: the middle of five has rank 3, which is the greatest of three or one that is left."""
-        ages = Ages({1_000: 1, 2_000: 1, 3_000: 1}, [500, 9_000])
+        ages = Ages({"age_p50": Interval(2_000, 3_000)})
         failure = Requirement("q.age_p50<2500").failure(self.numbers([1_000, 2_000, 3_000], 2), ages)
         self.assertEqual(failure, ("is undecided", "it is 2000 ms, 2.00 s, of those deleted, and 2000 to 3000 ms with "
                                                    "the 2 that are left (40 %)"))

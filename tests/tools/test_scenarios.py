@@ -1,11 +1,10 @@
 """Tests that the module scenarios finds what a text has, changes one setting and nothing else, and writes it whole."""
-import glob
-import os
 import unittest
 
 import tool  # which also puts the tools on the path
-from rehearse_tools.console import Fault, read_text, toml_of
+from rehearse_tools.console import Fault, toml_of
 from rehearse_tools.scenarios import Setting, parsed, varied, written
+from stored_cases import RUNNING, stored
 
 TEXT = tool.text_at(tool.HERE, "scenario.toml")
 
@@ -24,13 +23,12 @@ class Written(unittest.TestCase):
         self.assertEqual(toml_of(written(odd)), odd)
 
     def test_stored_scenarios(self):
-        paths = [path for folder in ("worked", "by-hand", "one-queue", "networks", "version-2", "version-3")
-                 for path in glob.glob(os.path.join(tool.ROOT, "tests", "cases", folder, "*.toml"))]
-        self.assertGreater(len(paths), 50)
-        for path in paths:
-            with self.subTest(path=path):
-                read = parsed(read_text(path), path)
-                self.assertEqual(parsed(written(read), path), read)
+        cases = stored(*RUNNING)
+        self.assertGreater(len(cases), 50)
+        for case in cases:
+            with self.subTest(case=case.path):
+                read = parsed(case.text.decode(), case.path)
+                self.assertEqual(parsed(written(read), case.path), read)
 
 
 class Varied(unittest.TestCase):

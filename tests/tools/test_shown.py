@@ -31,12 +31,11 @@ class Shown(ToolCase):
         self.other = self.write("b.toml", OTHER)
         run, known = variants.run, self.known
 
-        def remembered(command: list[str], text: str, counting: Any, engine: Any, figures: Any) -> Any:
+        def remembered(command: list[str], text: str, figures: Any, counting: Any, engine: Any) -> Any:
             """A run of the program, of which each is made once for all tests."""
-            self.assertIsNone(counting)
             self.assertIsNone(figures)
             if text not in known:
-                known[text] = run(command, text, counting, engine)
+                known[text] = run(command, text, engine=engine)
             return known[text]
 
         for patch in (mock.patch.object(variants, "run", remembered), mock.patch.object(sweep, "look_at_settling")):

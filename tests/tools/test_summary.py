@@ -9,10 +9,18 @@ import random
 import re
 import subprocess
 import sys
+import tempfile
+from unittest import mock
 
 from tool import HEADER, LIMIT, MD5, PROGRAM, ROOT, TOOLS, ToolCase, log_at, module_of, needs_program, open_end, printed, text_at
+from scenario_texts import script
+from rehearse_tools import summaries, whole_logs
 from rehearse_tools.console import Fault
+from rehearse_tools.logs import Log
+from stored_cases import RUNNING, put, stored
 
+# The stored cases, each in files of its own.
+FOLDER = tempfile.TemporaryDirectory()
 # A long poll; a batch of two; m-0-0 is handled by two consumers, m-0-1 after its timeout, m-0-2 as it has left for d.
 LOG = log_at("batch.log")
 PARTS = log_at("batch.rest")
@@ -26,13 +34,11 @@ KEYS = ["log", "end_seen", "rows", "last_row_at_ms", "has_report", "queues"]
 
 def cases():
     """The stored outputs of runs: their path, their log, what follows it, and the report's records by queue."""
-    for path in sorted(glob.glob(os.path.join(ROOT, "tests", "cases", "*", "*.out"))):
-        with open(path, encoding="utf-8", newline="") as file:
-            text = file.read()
-        if "\nreport," in text:
-            log, final, parts = text.partition("\nfinal,")
-            records = list(csv.reader(text[text.index("\nreport,") + 1:].splitlines()))
-            yield path, log + "\n", (final + parts)[1:], [dict(zip(records[0], record)) for record in records[1:]]
+    for case in stored(*RUNNING):
+        path, text = put(case, FOLDER.name).replace(".toml", ".out"), case.printed.decode()
+        log, final, parts = text.partition("\nfinal,")
+        records = list(csv.reader(text[text.index("\nreport,") + 1:].splitlines()))
+        yield path, log + "\n", (final + parts)[1:], [dict(zip(records[0], record)) for record in records[1:]]
 
 
 def rows_of(log):
@@ -235,6 +241,60 @@ class Stored(SummaryCase):
                 self.assertEqual(told, len(moments.get(queue.name, ())) + len(pending), (path, queue.name))
                 calls += told
         self.assertGreater(calls, 1_000)
+
+
+class Unread(SummaryCase):
+    """Logs that are whole, of which no row is read."""
+
+    def values(self, function, text):
+        """The values by a function that makes runs, of the run that a text is of."""
+        run, = function([self.kept(text)], summaries.Reading())
+        return summary.values_of([run], None, True), run.row_count, run.last_at
+
+    def kept(self, text):
+        log = Log(self.write("run.txt", text), summaries.WANTED, may_lack_rows=True)
+        log.keep()
+        self.addCleanup(log.kept.close)
+        return log
+
+    def assert_alike(self, text):
+        """They are the same in blocks of a few rows, of which few are looked through for names."""
+        wanted = self.values(summaries.runs_read, text)
+        for block in (whole_logs.BLOCK, 100):
+            with mock.patch.multiple(whole_logs, BLOCK=block, SAMPLES=1):
+                self.assertEqual(self.values(summaries.runs_unread, text), wanted)
+        return wanted[0]
+
+    def test_stored_cases(self):
+        number = copies = 0
+        for number, (path, log, parts, _) in enumerate(cases(), 1):
+            with self.subTest(path=path):
+                found = self.assert_alike(log + parts)
+                copies += sum(bool(values["copies_greatest"]) for values, in found.values())
+        self.assertGreater(number, 100)
+        self.assertGreater(copies, 2)
+
+    def test_a_receipt_that_looks_like_a_row(self):
+        """A text of a script may have what a row of a move has."""
+        calls = [f"{at},delete,,,,,{receipt},,,,"
+                 for at, receipt in enumerate(('"r,move,out,r,r"', '"r""q,scale,ok,1/2"', '"r,redrive,out,"'), 5_000)]
+        text = text_at(ROOT, "examples", "dead_letters.toml") + script("odd", "orders", *calls)
+        found = self.assert_alike(printed("run", text=text))
+        self.assertEqual([values["moved_to"] for values, in found.values()], [[], ["orders"]])
+
+    def test_a_lost_row(self):
+        """A forward that is lost is found by what is on its way; so is a message that left otherwise."""
+        output = text_at(ROOT, "tests", "cases", "by-hand", "move_and_forward_under_way.out")
+        rows = re.findall(".*,(?:forward|move),out,.*\n", output)
+        self.assertEqual(len(rows), 2)
+        for row in rows:
+            with self.assertRaises(Fault):
+                self.values(summaries.runs_unread, output.replace(row, ""))
+
+    def test_rows_that_have_to_be_read(self):
+        for reading in (summaries.Reading(1), summaries.Reading(None, 9), summaries.Reading(with_doors=True)):
+            with self.assertRaisesRegex(Fault, "rows have to be read"):
+                summaries.runs_unread([self.kept(LOG + PARTS)], reading)
 
 
 class SideBySide(SummaryCase):
@@ -525,13 +585,6 @@ class Faults(SummaryCase):
 
 
 class Program(SummaryCase):
-    @needs_program
-    def test_summary_of_the_documents(self):
-        scenario = os.path.join(ROOT, "examples", "dead_letters.toml")
-        status, out, err = self.run_command("summary", "-", "--queue", "orders", stdin=printed("run", scenario))
-        self.assertEqual((status, err), (0, ""))
-        self.assertIn(f"```\n{out}```\n", text_at(TOOLS, "README.md"))
-
     @needs_program
     def test_examples(self):
         """Each example is summarised whole, with a report that agrees with its log."""

@@ -22,9 +22,9 @@ DOOR_SHARES = {"door_age_p50": 0.5, "door_age_p95": 0.95, "door_age_max": 1.0}
 
 
 class Door(NamedTuple):
-    """When a message was first sent, and the consumers and queues whose forwards leave that open."""
+    """When a message was first sent, and the bits of the consumers and queues whose forwards leave that open."""
     at: int
-    doubts: frozenset[tuple[str, str]] = frozenset()
+    doubts: int = 0
 
 
 class Doors:
@@ -36,7 +36,9 @@ class Doors:
         self.first, self.ways = first, set(ways)
         self.origins, self.forwards = Origins[Door](), Forwards[Door]()
         self.served: dict[tuple[str, str], Door] = {}
-        self.ages: dict[str, dict[frozenset[tuple[str, str]], Counter[int]]] = {}
+        self.ages: dict[str, Counter[tuple[int, int]]] = {}
+        # a bit for each consumer and queue
+        self.bits: dict[tuple[str, str], int] = {}
 
     def take_of(self, head: Head) -> Take | None:
         """What takes in the rows with a head, after they have been used; None if they say nothing here."""
@@ -63,7 +65,8 @@ class Doors:
         found = self.forwards.arrived(at, head)
         if found is None or not found.may_be_other:
             return found.known if found else None
-        return found.known._replace(doubts=found.known.doubts | {(head.agent, head.queue)})
+        bit = self.bits.setdefault((head.agent, head.queue), 1 << len(self.bits))
+        return Door(found.known.at, found.known.doubts | bit)
 
     def received(self, at: int, head: Head, message: str, receipt: str, detail: str) -> None:
         self.served[head.agent, message] = self.origins.of(head, message)
@@ -92,24 +95,26 @@ class Doors:
 
     def count(self, queue: str, at: int, door: Door) -> None:
         if at >= self.first:
-            ages = self.ages.setdefault(queue, {}).setdefault(door.doubts, Counter())
-            ages[at - door.at] += 1
+            self.ages.setdefault(queue, Counter())[door.doubts, at - door.at] += 1
 
     def open_of(self, queue: str) -> tuple[int, list[str]]:
         """The number of deleted messages of a queue whose first send is open, and the consumers who leave it so."""
-        number, agents = 0, set()
-        for doubts, counts in self.ages.get(queue, {}).items():
-            open_doubts = {edge[0] for edge in doubts if not self.forwards.edges[edge].keeps_order}
-            if open_doubts:
-                number += sum(counts.values())
-                agents |= open_doubts
-        return number, sorted(agents)
+        number, found, are_open = 0, 0, self.open_bits()
+        for (doubts, _), count in self.ages.get(queue, {}).items():
+            if doubts & are_open:
+                number += count
+                found |= doubts & are_open
+        return number, sorted({agent for (agent, _), bit in self.bits.items() if bit & found})
+
+    def open_bits(self) -> int:
+        """The bits of those whose forwards did not keep their order."""
+        return sum(bit for edge, bit in self.bits.items() if not self.forwards.edges[edge].keeps_order)
 
     def ages_of(self, queue: str) -> Counter[int]:
         """How many messages were deleted from a queue at each age since the first send."""
         together: Counter[int] = Counter()
-        for counts in self.ages.get(queue, {}).values():
-            together.update(counts)
+        for (_, age), count in self.ages.get(queue, {}).items():
+            together[age] += count
         return together
 
     def columns(self, queue: str) -> dict[str, int | None]:

@@ -7,10 +7,11 @@
   row `latency` of a table stands for the keys of the table latency.
 - refusals.csv has the refusals by number. Those of calls have no status of the program; `aws` is the error of SQS, and
   `remedy` what one may do.
-- columns.csv has the columns of the report, with the rows that they count and their metrics of CloudWatch. The row
-  `refusals` stands for the refusals of calls.
+- columns.csv has the columns of the report, with the rows that they count, the figures of which each is the sum, and
+  their metrics of CloudWatch. The row `refusals` stands for the refusals of calls.
+- further.csv has the columns of sweeps that no report has, each with its figure, or with what it is made of.
 
-The modules keys and logs read them, and tools/facts makes tables of docs/FORMATS.md and docs/scenario.schema.json.
+The modules keys, logs and figures read them, and tools/facts makes tables of documents and docs/scenario.schema.json.
 """
 from __future__ import annotations
 

@@ -9,12 +9,13 @@ import csv
 import io
 import re
 import tempfile
-from collections.abc import Iterable, Sequence
+from collections.abc import Sequence
 from itertools import count
 from typing import Any, NamedTuple
 
-from .console import Fault, refuse
-from .logs import FIGURE_HEADER, Log
+from .console import refuse
+from .figures import Figured, figures_in
+from .logs import Log
 from .programs import program_of
 from .runs import first_line
 from .scenarios import written
@@ -23,17 +24,6 @@ from .starting import ran
 # The longest horizon that a scenario may have, in milliseconds, and how many queues it has at most.
 HORIZON, QUEUES_MOST = 2_592_000_000, 1_000
 NO_ROW = re.compile(r":([0-9]+): no row of this scenario's log")
-
-
-class Figures(dict[str, Any]):
-    """The figures of a queue or another agent by their names, None where there is no number."""
-
-    def __missing__(self, name: str) -> Any:
-        raise Fault(f"the program counts no {name}: it is of another version than this tool")
-
-
-# The figures of each queue and other agent by its name.
-Figured = dict[str, Figures]
 
 
 class Names(NamedTuple):
@@ -73,13 +63,3 @@ def figures_of_log(log: Log, names: Names, words: Sequence[str]) -> Figured:
 
 def consumer(name: str, queue: str) -> dict[str, Any]:
     return {"name": name, "kind": "consumer", "queue": queue, "service_min_ms": 1, "service_max_ms": 1}
-
-
-def figures_in(records: Iterable[Sequence[str]]) -> Figured:
-    """The figures in records."""
-    found: Figured = {}
-    for record in records:
-        if record != FIGURE_HEADER:
-            _, of, name, number = record
-            found.setdefault(of, Figures())[name] = int(number) if number else None
-    return found

@@ -7,7 +7,7 @@ import re
 import stat
 import tempfile
 from collections import Counter
-from collections.abc import Callable, Iterator, Mapping, Sequence
+from collections.abc import Callable, Iterable, Iterator, Mapping, Sequence
 from itertools import chain
 from operator import length_hint
 from typing import IO, Any, NamedTuple, TextIO
@@ -78,6 +78,8 @@ COLUMN_OF: dict[What, str] = {
     (call, answer): row["name"] for row in COLUMNS if row["counts"]
     for call, answer in (counted.split() for counted in row["counts"].split("; "))}
 COUNTED = dict.fromkeys((*COLUMN_OF.values(), *REFUSALS))
+# The figures that a column is the sum of; those that only the report has are not here.
+FIGURES_OF = {row["name"]: row["figures"].split("; ") for row in COLUMNS if row["figures"]}
 # The columns of the places of messages that are left, by what the final queues call them.
 PLACES = {"visible": "visible", "inflight": "in_flight", "delayed": "delayed"}
 # The columns of ages, which are empty if no message was deleted.
@@ -366,6 +368,20 @@ class Log:
         rest.counts = self.counts
         rest.check_report()
 
+    def again(self) -> "Log":
+        """The same log, of which nothing was read yet."""
+        log = Log(self.path, self.wanted, self.may_lack_rows, self.rest)
+        log.kept, log.place = self.kept, self.place
+        return log
+
+    def has_rest_alone(self) -> bool:
+        """Whether the file of a log that is kept has what follows a log and nothing else; then that is read."""
+        begin = ",".join(FINAL_HEADER).encode()
+        is_rest = os.pread(self.kept.fileno(), len(begin), 0) == begin
+        if is_rest:
+            next(self.begun(self.blocks()), None)
+        return is_rest
+
     def not_ended(self) -> Fault:
         return Fault(f"{self.name}: the run did not end: its report is missing")
 
@@ -379,6 +395,11 @@ class Log:
         for name, given in self.report.items():
             for column, number in counted_columns(kinds.get(name, {})).items():
                 check_number(self.name, f"{column} of {name}", number, given[column])
+        self.check_left(kinds)
+
+    def check_left(self, kinds: Iterable[str] = ()) -> None:
+        """Makes sure that the report counts the messages left that are, and has their queues and others."""
+        for name, given in self.report.items():
             for place, column in PLACES.items():
                 check_number(self.name, f"{column} of {name}", self.left[name, place], given[column], "final queues")
         for name in (*kinds, *(name for name, _ in self.left)):

@@ -102,7 +102,7 @@ def summarised(paths: Sequence[str], reading: Reading, as_lists: bool) -> Any:
     for run in runs:
         tell_open(run.log)
     values = [{**({"run": number} if len(runs) > 1 else {}), **side}
-              for sides in values_of(runs, None).values() for number, side in enumerate(sides, 1) if side]
+              for sides in values_of(runs, None, True).values() for number, side in enumerate(sides, 1) if side]
     return values if as_lists else pandas().DataFrame(values)
 
 

@@ -24,7 +24,6 @@ from __future__ import annotations
 
 import base64
 import datetime
-import functools
 import gzip
 import json
 import os
@@ -32,30 +31,27 @@ import shlex
 import tempfile
 import time
 from argparse import Namespace
-from collections.abc import Callable, Iterable, Mapping, Sequence
+from collections.abc import Iterable, Mapping, Sequence
 from html import escape
 from typing import IO, Any, NamedTuple
 
 from .console import (Fault, Parser, check_library, check_output, check_title, command_of, library, read_bytes,
                       read_text, refuse, shown, tell, write_text)
 from .drawing import ALARM, COLOURS, unit_of
-from .figures import COST, Figures
+from .figures import COST, Figures, text_of
 from .histories import (PLACES, Course, Histories, History, ages_are_spread, ages_in, copies_levels, counts_in,
                         course_of, edges, levels, oldest)
-from .logs import Log
+from .logs import FIGURE_HEADER, Log
 from .overview import COLUMNS as OVERVIEW
 from .overview import cells_of
 from .programs import TOP, program_of, reading_words
 from .requirements import Failure, Requirement
 from .results import checksum
-from .runs import COLUMNS, Ages, Counting, Extra, extra_of, reported
+from .runs import Counting, Reported, as_wanted, extra_of, reported
 from .scenarios import consumers_of, names_of, parsed, scripts_in, ways_of, written
 from .starting import ran
-from .summaries import LINES, Queue, Reading, Run, cell_of, is_told, lost_in, lost_told, note_of, read_runs
+from .summaries import LINES, Reading, Run, cell_of, is_told, lost_in, lost_told, note_of, read_runs
 from .units import duration, several, window_of
-
-# The columns and the ages of each queue, counted from the log.
-CountedRun = tuple[dict[str, list[str]], dict[str, Ages]]
 
 QUEUES_MOST = 20
 # A line that changes more often than this is a mean over an extent, in so many columns.
@@ -88,21 +84,14 @@ def run_program(program: str, text: str, words: Sequence[str], out: IO[bytes]) -
     return next((line for line in lines if line), f"the program ended with status {status}")
 
 
-def judged(requirements: Iterable[Requirement], queues: Mapping[str, Queue], counted: Callable[[], CountedRun],
-           is_cut: bool) -> list[Judged]:
-    """For each requirement and each of its queues, why it does not hold, or None. `counted` reads the log, if the
-    report does not decide, or if what is counted is cut."""
+def judged(requirements: Iterable[Requirement], report: Reported) -> list[Judged]:
+    """For each requirement and each of its queues, why it does not hold, or None."""
     found = []
     for requirement in requirements:
-        names = [name for name in queues if requirement.is_of(name)]
-        refuse(not names, f"{requirement.text}: there is no queue {requirement.queue}")
-        for name in names:
-            report = queues[name].report
-            texts = ["" if report[column] is None else str(report[column]) for column in COLUMNS]
-            ages = None
-            if is_cut or requirement.is_extra or requirement.is_open(texts):
-                records, of_queues = counted()
-                ages, texts = of_queues.get(name), records.get(name, texts)
+        records = [record for record in report.records if requirement.is_of(record[0])]
+        refuse(not records, f"{requirement.text}: there is no queue {requirement.queue}")
+        for name, *texts in records:
+            ages = report.ages[name]
             left = requirement.left_told(texts, ages) if requirement.is_age else ""
             found.append(Judged(requirement, name, requirement.failure(texts, ages), left))
     return found
@@ -311,21 +300,20 @@ def settings_html(scenario: Mapping[str, Any]) -> str:
     return rows_of_table(rows)
 
 
-def extra_of_all(requirements: Iterable[Requirement]) -> Extra:
-    """What some requirements want beside the report."""
-    return extra_of(requirement.column for requirement in requirements)
-
-
 def program_words(options: Namespace) -> list[str]:
     """The program's options: how the scenario is read, and the figures of what is counted."""
-    return [*reading_words(options), *Figures(options.first or 0, 0, {}).words()]
+    return [*reading_words(options), *Figures(options.first or 0, 0).words()]
 
 
-def counted_at(path: str, counting: Counting, figures: Figures | None) -> CountedRun:
-    """What is counted of each queue, by the log in a file, and the figures that are wanted."""
-    with open(path, encoding="utf-8", newline="") as file:
-        records, ages = reported(file, counting, figures) or ([], {})
-    return {name: numbers for name, *numbers in records}, ages
+def report_in(run: Run, figures: Figures, counting: Counting) -> Reported:
+    """The report of a run whose output is in a file, with the figures that are wanted and what is counted from the log.
+    """
+    records = [[name, *map(text_of, numbers.values())] for name, numbers in run.log.report.items()]
+    found = as_wanted(records, (run.log.parts or {}).get(FIGURE_HEADER[0], ()), figures)
+    if counting.with_doors or found is None or found.is_open:
+        with open(run.log.path, encoding="utf-8", newline="") as file:
+            found = reported(file, counting, figures)
+    return found or Reported([], {})
 
 
 def page(options: Namespace, words: Sequence[str], text: str, path: str) -> tuple[str, list[Judged]]:
@@ -334,10 +322,9 @@ def page(options: Namespace, words: Sequence[str], text: str, path: str) -> tupl
     run, = read_runs([path], Reading(options.first, has_figures=True))
     requirements = [Requirement(requirement) for requirement in options.require]
     first, end = options.first or 0, min(scenario["horizon"], options.last or scenario["horizon"])
-    counting = Counting(first, end, extra_of_all(requirements), ways_of(scenario))
-    figures = counting.extra.figures(first, end, consumers_of(scenario))
-    counted = functools.cache(lambda: counted_at(path, counting, figures))
-    found = judged(requirements, run.queues, counted, bool(options.first))
+    extra = extra_of(requirement.column for requirement in requirements)
+    figures = extra.figures(first, end, consumers_of(scenario))
+    found = judged(requirements, report_in(run, figures, Counting(first, end, extra.with_doors, ways_of(scenario))))
     body = lost_html(run) + requirements_html(found)
     if run.row_count:
         histories = Histories(Log(path))

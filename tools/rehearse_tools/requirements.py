@@ -5,7 +5,6 @@ import fnmatch
 import math
 import operator
 import re
-from collections import Counter
 from collections.abc import Sequence
 from fractions import Fraction
 from typing import NamedTuple
@@ -13,11 +12,10 @@ from typing import NamedTuple
 from .console import Fault, shown
 from .doors import DOOR_SHARES
 from .figures import AGES as CENSORED
-from .figures import BACKLOG_GONE, BUSY, MOMENTS, MOVED_AGES, NEW_AGES
+from .figures import BACKLOG_GONE, BUSY, MOMENTS
 from .logs import PLACES
-from .runs import ALL_COLUMNS, COLUMNS, EXTRA_COLUMNS, PERCENTILES, Ages
-from .statistics import (Interval, censored_percentile, half_width, holds_within, mean_of, rank_of, share_left,
-                         skew_interval)
+from .runs import ALL_COLUMNS, COLUMNS, PERCENTILES, Ages
+from .statistics import Interval, half_width, holds_within, mean_of, rank_of, share_left, skew_interval
 from .units import duration, number_of, quantity
 
 # Which percentile a column of ages is.
@@ -91,11 +89,6 @@ class Requirement:
             return "a share, as 90%"
         return "a number with a unit, as 60s" if self.is_time else "a number without a unit"
 
-    @property
-    def is_extra(self) -> bool:
-        """Whether it is on a column that a report does not have."""
-        return self.column in EXTRA_COLUMNS
-
     def is_of(self, name: str) -> bool:
         return fnmatch.fnmatchcase(name, self.queue)
 
@@ -106,7 +99,7 @@ class Requirement:
     def failure(self, numbers: Sequence[str], ages: Ages | None = None) -> Failure | None:
         """Why it does not hold for a queue with these numbers of the report; None if it holds.
 
-        Messages that are left may get any age from the one that they have on. `ages` has those, if they are known.
+        Messages that are left may get any age from the one that they have on. `ages` has the bounds, if they are known.
         """
         text = numbers[ALL_COLUMNS.index(self.column)]
         if not text:
@@ -114,7 +107,7 @@ class Requirement:
         number, left = number_of(text), self.left_told(numbers, ages)
         if not left or self.column not in (*SHARES, *CENSORED):
             return None if self.holds(number, self.bound) else Failure("fails", self.told_number(number))
-        interval = bounds_by_ages(self.column, ages) if ages else None
+        interval = ages.bounds.get(self.column) if ages else None
         interval = interval or bounds_by_report(self.column, numbers)
         is_held = holds_within(interval, self.holds, self.bound)
         if is_held:
@@ -125,7 +118,7 @@ class Requirement:
 
     def left_told(self, numbers: Sequence[str], ages: Ages | None = None) -> str:
         """The messages that are left, or that may still come, in words; nothing if there are none."""
-        left, coming = left_of(numbers), len(may_come_of(self.column, ages))
+        left, coming = left_of(numbers), ages.may_come if ages and self.column in DOOR_SHARES else 0
         share = 100 * share_left(int(numbers[COLUMNS.index("deletes")]), left + coming)
         told = " and ".join(text for text in (f"the {left:,} that are left" if left else "",
                                               f"the {coming:,} that may still come" if coming else "") if text)
@@ -137,7 +130,7 @@ class Requirement:
             return "a backlog is there at the end"
         if self.column == BUSY:
             return "it has no consumer"
-        kind = "new " if self.column in NEW_AGES else "moved " if self.column in MOVED_AGES else ""
+        kind = next((f"{kind} " for kind in ("new", "moved") if self.column.startswith(kind)), "")
         return f"no {kind}message was deleted" + (self.column in DOOR_SHARES) * (
             ", or of one it is open when it was first sent (summary --door tells)")
 
@@ -146,7 +139,7 @@ class Requirement:
         return f"it is {number}{unit}"
 
     def is_open(self, numbers: Sequence[str]) -> bool:
-        """Whether the report leaves open if it holds, so that the ages of the messages have to be known."""
+        """Whether the report leaves open if it holds, so that the bounds of the age have to be known."""
         if self.column not in PERCENTILES or not numbers[ALL_COLUMNS.index(self.column)] or not left_of(numbers):
             return False
         return holds_within(bounds_by_report(self.column, numbers), self.holds, self.bound) is None
@@ -155,11 +148,6 @@ class Requirement:
 def left_of(numbers: Sequence[str]) -> int:
     """How many messages a report says are left in a queue."""
     return sum(int(numbers[COLUMNS.index(place)]) for place in PLACES.values())
-
-
-def may_come_of(column: str, ages: Ages | None) -> Sequence[int]:
-    """How old those are since their first send that may still come, if a column is on such ages."""
-    return ages.since_first_send.may_come if column in DOOR_SHARES and ages and ages.since_first_send else ()
 
 
 def bounds_by_report(column: str, numbers: Sequence[str]) -> Interval:
@@ -171,14 +159,3 @@ def bounds_by_report(column: str, numbers: Sequence[str]) -> Interval:
     rank = rank_of(deleted + left, SHARES[column])
     return Interval(max((age for place, age in ranks if place <= rank - left), default=0),
                     min((age for place, age in ranks if place >= rank), default=math.inf))
-
-
-def bounds_by_ages(column: str, ages: Ages) -> Interval | None:
-    """The same if it is known how old each message is that is left; None if it is not."""
-    if column in ages.bounds:
-        return ages.bounds[column]
-    known = ages.since_first_send or ages if column in DOOR_SHARES else ages
-    if known.deleted is None:
-        return None
-    deleted = list(Counter(known.deleted).elements())
-    return censored_percentile(deleted, known.left, SHARES[column], known.may_come) or Interval(0, math.inf)

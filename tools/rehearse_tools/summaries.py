@@ -9,24 +9,27 @@ from typing import Any, NamedTuple, Optional
 
 from .console import Fault, refuse, shown
 from .doors import Doors, Left
-from .log_figures import Figures, Names, figures_in, figures_of_log
-from .logs import FIGURE_HEADER, NAME, PLACES, Head, Log, Take, What, check_number
+from .figures import Numbers, figures_in, summed
+from .log_figures import Names, figures_of_log
+from .logs import FIGURE_HEADER, FIGURES_OF, NAME, PLACES, REFUSALS, Head, Log, Take, What, check_number
 from .replay import BadRow, Replay, UnknownKind, copies_in, handlers_of, replay
 from .units import duration, several
+from .whole_logs import WholeLog
 
 CAME_IN = ("sent", "came_by_forward", "came_by_redrive", "came_by_move")
 WENT_OUT = ("deleted", "dead_lettered", "moved_away", "lost_by_expiry")
+# What is sent from queue to queue, and what of it arrives.
+LEFT_FOR_OTHERS, ARRIVED = ("forwarded", "dead_lettered", "moved_away"), (*CAME_IN[1:], "forwarded_again")
 # What is counted, in its order. Where no other number has its name here, it is the figure of this name.
 COUNTED = (*CAME_IN, "repeated_sends", "deleted", "handled_once", "handled_more_than_once", "receives",
            "received_messages", "failed_services", "forwarded", "moved_away", "dead_lettered", "lost_by_expiry",
            "SendMessage", "ReceiveMessage", "DeleteMessage", "ChangeMessageVisibility", "StartMessageMoveTask",
            "CancelMessageMoveTask", "empty_receives", "refused_requests", "copies_changed")
 ID = re.compile("m-[0-9]{1,19}-[0-9]{1,19}")
-# The columns of a report that figures have, too, beside the counts of rows. Where only some rows are counted, those of
-# STATE are still the same.
-REPORTED = {"depth_max": "depth_greatest", "in_flight": "left_in_flight", "age_sum": "age_sum_ms",
-            "age_max": "age_greatest_ms", "age_p50": "age_p50_ms", "age_p95": "age_p95_ms", "age_p99": "age_p99_ms"}
+# What of a report is the same where only some rows are counted.
 STATE = ("in_flight", "transfers", "left")
+# The parts behind a log that are looked at.
+WANTED = ("transfer", "task", FIGURE_HEADER[0])
 # More messages than these that are not in flight are a backlog, unless --backlog says otherwise.
 BACKLOG = 10
 # The rows whose detail is the name of a queue, or of a task.
@@ -64,7 +67,7 @@ class Queue:
         self.on_their_way = 0
         self.filled_at: int | None = None
         self.report: Values = {}
-        self.figures = Figures()
+        self.figures = Numbers()
         self.is_cut = False
         self.copies: dict[str, int] = {}
         self.clear()
@@ -148,9 +151,11 @@ class Queue:
 
     def check_report(self, on_their_way: int, path: str) -> None:
         """Checks that the report agrees with the rows; if not, the files are of two runs, or one of them is damaged."""
-        given = {**self.report, "transfers": on_their_way, "left": sum(self.report[place] for place in PLACES.values())}
-        counted = {**{column: self.figures[figure] for column, figure in REPORTED.items()},
-                   "transfers": self.on_their_way, "left": self.figures["left"]}
+        given = {**self.report, "transfers": on_their_way, "left": sum(self.report[place] for place in PLACES.values()),
+                 "refusals": sum(self.report[name] for name in REFUSALS)}
+        counted = {**{column: summed(self.figures[name] for name in names) for column, names in FIGURES_OF.items()},
+                   "transfers": self.on_their_way, "left": self.figures["left"],
+                   "refusals": self.figures["refused_requests"]}
         for column in STATE if self.is_cut else counted:
             check_number(path, f"{column} of {self.name}", counted[column], given[column])
 
@@ -178,8 +183,7 @@ class Queue:
             **{key: figures[key] for key in ("moved_age_p50_ms", "moved_age_p95_ms", "depth_greatest")},
             "depth_greatest_at_ms": figures["depth_greatest_at_ms"] if figures["depth_greatest"] else None,
             **{key: figures[key] for key in ("backlog_gone_at_ms", "backlog_since_ms")},
-            "backlog_over": self.run.reading.backlog, "not_empty_since_ms": self.filled_at if left else None,
-            "requests": figures["requests"], "copies_greatest": self.copies_greatest,
+            "backlog_over": self.run.reading.backlog, "requests": figures["requests"], "copies_greatest": self.copies_greatest,
             "dead_lettered_to": sorted(self.dead_lettered_to), "moved_to": sorted(self.moved_to)}
 
 
@@ -195,6 +199,11 @@ class Reading(NamedTuple):
     with_doors: bool = False
     backlog: int = BACKLOG
     has_figures: bool = False
+
+    @property
+    def reads_rows(self) -> bool:
+        """Whether figures do not say all that is wanted."""
+        return self.first is not None or self.last is not None or self.with_doors
 
     def words(self) -> list[str]:
         """The program's options for these figures."""
@@ -239,6 +248,7 @@ class Run:
         self.left_of_doors: Left | None = None
         self.row_count, self.has_report = 0, False
         self.last_at: int | None = None
+        self.whole: WholeLog | None = None
         self.names = Names(set(), set(), {})
 
     def queue_named(self, name: str) -> Queue:
@@ -266,6 +276,64 @@ class Run:
         self.queues = {queue.name: queue for queue in sorted(self.queues.values(), key=lambda queue: queue.number)}
         self.left_of_doors = self.doors.left() if self.doors else None
 
+    def find_rest(self) -> None:
+        """Reads what follows the rows, if it does, and not these."""
+        self.whole = WholeLog(self.log)
+        lines = self.whole.rest()
+        if lines:
+            self.log.read_parts(iter(lines))
+
+    def take_whole(self) -> None:
+        """Takes in what figures do not say of a log that is whole, and then these. The names in some of its rows are all
+        of them, unless the program says otherwise."""
+        log, whole = self.log, self.whole
+        refuse(whole is None or not log.report, "its report is missing")
+        assert whole is not None
+        log.check_left()
+        for place, name in enumerate(log.report):
+            self.queue_named(name).number = place
+        transfers = (log.parts or {}).get("transfer", ())
+        for record in transfers:
+            self.queue_named(record[2]).on_their_way += 1
+        self.row_count, self.last_at = whole.row_count(), whole.last_at()
+        try:
+            self.take_named(whole.names(False))
+        except Fault:
+            self.take_named(whole.names(True))
+        left, arrived = (sum(queue.figures[figure] for queue in self.queues.values() for figure in figures)
+                         for figures in (LEFT_FOR_OTHERS, ARRIVED))
+        refuse(left - arrived != len(transfers), "more or less is on its way")
+        self.take_details(whole)
+
+    def take_named(self, names: set[tuple[str, str, str]]) -> None:
+        """Takes in the figures, by the queues, agents and numbers of queues in rows."""
+        tasks = {record[1] for record in (self.log.parts or {}).get("task", ())}
+        self.names = Names(set(self.queues), {agent for _, agent, _ in names} | tasks, {})
+        refuse(any(number and self.queue_named(queue).number != int(number) for queue, _, number in names),
+               "its report has another order")
+        self.take_figures(self.log)
+
+    def take_details(self, whole: WholeLog) -> None:
+        """Takes in from rows where messages went, and how many copies of consumers asked."""
+        redriving, moving, scaling = ({name for name, queue in self.queues.items() if queue.figures[figure]}
+                                      for figure in ("dead_lettered", "moved_away", "copies_changed"))
+        for _, name, *_, to in whole.rows_of("redrive", "out") if redriving else ():
+            self.queues[name].dead_lettered_to.add(to)
+            # a queue has one dead-letter queue
+            redriving.discard(name)
+            if not redriving:
+                break
+        for _, name, *_, to in whole.rows_of("move", "out") if moving else ():
+            self.queues[name].moved_to.add(to)
+        for at, name, *words in whole.rows_of("scale", "ok") if scaling else ():
+            self.queues[name].scaled(int(at), Head(name, *words[:3]), *words[3:])
+
+    def not_empty_since(self) -> dict[str, int | None]:
+        """Since when each queue is not empty of which messages are left."""
+        left = {name: queue.figures["left"] for name, queue in self.queues.items()}
+        return {**{name: queue.filled_at for name, queue in self.queues.items() if left[name]},
+                **(self.whole.not_empty_since(left) if self.whole and self.has_report else {})}
+
     def take_figures(self, rest: Log) -> None:
         """Takes in the figures, and what followed the log, which may be in a file of its own. Where the end is cut,
         the report is not used."""
@@ -276,7 +344,7 @@ class Run:
         behind = (rest.parts or {}).get(FIGURE_HEADER[0], ()) if self.reading.has_figures else ()
         figures = figures_in(behind) or figures_of_log(self.log, self.names, self.reading.words())
         for name in {*self.queues, *report}:
-            self.queues.setdefault(name, Queue(name, self)).figures = figures.get(name, Figures())
+            self.queues.setdefault(name, Queue(name, self)).figures = figures.get(name, Numbers())
         if rest.parts is not None and self.last is None:
             self.take_report(rest)
 
@@ -294,34 +362,64 @@ class Run:
 
 def read_runs(paths: Iterable[str], reading: Reading = Reading()) -> list[Run]:
     """The runs in the files, in their order."""
+    logs = [Log(path, WANTED, may_lack_rows=True) for path in paths]
+    for log in logs:
+        log.keep()
+    try:
+        return runs_unread(logs, reading)
+    except (Fault, ValueError):
+        # what is wrong is told by the rows
+        return runs_read(logs, reading)
+
+
+def runs_unread(logs: Sequence[Log], reading: Reading) -> list[Run]:
+    """The runs of logs that are whole, of which no row is read; a fault where that is not enough."""
+    runs: list[Run] = []
+    for log in map(Log.again, logs):
+        if log.has_rest_alone():
+            refuse(not runs or not runs[-1].log.is_open, "it has no log")
+            last = runs[-1].log
+            last.parts, last.report, last.left = log.parts, log.report, log.left
+        else:
+            runs.append(Run(log, reading))
+            runs[-1].find_rest()
+    refuse(reading.reads_rows or len(runs) > 2 or any(run.log.is_open for run in runs), "rows have to be read")
+    for run in runs:
+        run.take_whole()
+    return runs
+
+
+def runs_read(logs: Sequence[Log], reading: Reading) -> list[Run]:
+    """The runs of logs whose rows are read."""
     runs: list[Run] = []
     rests: list[Log] = []
-    for path in paths:
-        log = Log(path, wanted=("transfer", FIGURE_HEADER[0]), may_lack_rows=True)
-        log.keep()
+    for log in logs:
         run = Run(log, reading)
         run.take_rows()
         if log.has_rows:
             runs.append(run)
             rests.append(log)
         elif not runs or not runs[-1].log.is_open:
-            raise Fault(f"{path} has no log, and no log without its report stands before it")
+            raise Fault(f"{log.path} has no log, and no log without its report stands before it")
         else:
             runs[-1].log.complete(log)
             rests[-1] = log
-        refuse(len(runs) > 2, f"{path} is the log of a third run: two can be told side by side")
+        refuse(len(runs) > 2, f"{log.path} is the log of a third run: two can be told side by side")
     for run, rest in zip(runs, rests):
         run.log.check_open()
         run.take_figures(rest)
     return runs
 
 
-def values_of(runs: Sequence[Run], names: Iterable[str] | None) -> dict[str, Sides]:
-    """For each queue of the runs, or each that is named, its values in each run; None if a run lacks it."""
+def values_of(runs: Sequence[Run], names: Iterable[str] | None, is_full: bool = False) -> dict[str, Sides]:
+    """For each queue of the runs, or each that is named, its values in each run; None if a run lacks it. In full they
+    have also what is not shown, and takes longer."""
     there = dict.fromkeys(name for run in runs for name in run.queues)
     for name in names or ():
         refuse(name not in there, f"there is no queue {name}")
-    return {name: [{**run.queues[name].values(), **doors_in(run, name)} if name in run.queues else None for run in runs]
+    since = [run.not_empty_since() if is_full else {} for run in runs]
+    return {name: [{**run.queues[name].values(), **({"not_empty_since_ms": times.get(name)} if is_full else {}),
+                    **doors_in(run, name)} if name in run.queues else None for run, times in zip(runs, since)]
             for name in dict.fromkeys(names or there)}
 
 

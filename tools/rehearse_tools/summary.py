@@ -16,7 +16,8 @@ are left are delayed. A report that does not agree with the rows is refused.
 
 Most numbers are figures, which the program counts of the log by proof. Only the greatest number of copies, the ages of
 --door and what is on its way are counted here. The program is the one that SQS_REHEARSE in the environment names, or
-else sqs_rehearse beside this folder. Standard input is kept in a file meanwhile, since it is read twice.
+else sqs_rehearse beside this folder. Standard input is kept in a file meanwhile. A log without its report takes longer,
+and so do --from, --to and --door: then all rows are read here, too.
 
 --from TIME, such as 90s or 1.5h, counts rows from then on, so that a warm-up is left out. Messages that are in a queue
 by then are there, with the age that they have, but what they went through before does not count. --to TIME leaves out
@@ -171,7 +172,7 @@ def json_of(runs: Sequence[Run], queues: Mapping[str, Sides]) -> str:
                "rows": run.row_count, "last_row_at_ms": run.last_at, "has_report": run.has_report,
                "queues": [sides[place] for sides in queues.values() if sides[place]]}
               for place, run in enumerate(runs)]
-    values: Values = next((queue.values() for run in runs for queue in run.queues.values()), {})
+    values: Values = next((side for sides in queues.values() for side in sides if side), {})
     numbers = [key for key in values if key not in ("queue", "there_before", "dead_lettered_to", "moved_to")]
     differences: list[Values] = [{"queue": name, **{key: difference(sides[0], sides[-1], key) for key in numbers}}
                    for name, sides in queues.items() if len(runs) == 2]
@@ -192,6 +193,6 @@ def main(words: Sequence[str]) -> int:
     refuse(options.backlog < 0, "--backlog is at least 0")
     reading = Reading(*window_of(options.first, options.last), options.door, options.backlog)
     runs = read_runs(files, reading)
-    queues = values_of(runs, options.queue)
+    queues = values_of(runs, options.queue, options.json)
     print_text(json_of(runs, queues) if options.json else text_of(runs, queues, Style(is_coloured())))
     return 0

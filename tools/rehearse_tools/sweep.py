@@ -50,20 +50,14 @@
           part of it, or (decided) until each requirement is shown or refuted; at most --most runs of a variant
 --least   finds by bisection the least value of a setting with which all requirements hold
 --from    counts each run from this time on, such as 90s or 1.5h, so that a warm-up is left out. Messages that are in a
-          queue by then are there, with the age that they have. Each run then writes its log, which takes longer.
+          queue by then are there, with the age that they have.
 --settling draws into a file, SVG, PNG or PDF, the mean depth of each queue over the runs that the advice looks at, its
           moving mean by Welch, and from when on to count. It goes with --spread.
 --to      ends each run at this time, including what happens at it
 --columns the columns that are printed, between commas: those of the report, and
           door_age_p50, door_age_p95, door_age_max: ages since the first send of messages that were deleted, empty if
             they are open, as `summary --help` says under --door. For these alone the log is read.
-          new_age_p50 .. new_age_max, moved_age_p50 .. moved_age_max: ages of messages that a move task did not bring
-            into the queue, and of those that one brought
-          window_age_p95: the greatest 95th percentile of age among windows of --window (5min), by time of deletion
-          backlog_gone: when a backlog ended last, as `summary --help` has it: 0 if there was none, empty at its end
-          requests, cost: API requests as `summary` counts them, and what they cost at --price a million
-          depth_max_at_ms, in_flight_max, in_flight_max_at_ms, received_again, tries_max, busy: as docs/STATISTICS.md
-            has them
+          FURTHER
 --table   prints a table for people in place of CSV, without columns, and rows of queues, that have no number
 --v3      reads version 3 of scenarios too, as `run --v3` does; --preview is its former name
 --program the program; without it SQS_REHEARSE of the environment, else sqs_rehearse beside this folder
@@ -102,12 +96,14 @@ import argparse
 import os
 import re
 from collections.abc import Callable, Iterable, Iterator, Sequence
+from textwrap import fill
 
 from .clusters import PROGRAM, SCRIPTS, Cluster
 from .console import (Fault, Parser, check_library, check_output, csv_text, print_text, refuse, shown, tell,
                       write_bytes, write_text)
 from .decisions import Requirements
 from .drawing import FORMATS, bytes_of
+from .figures import COLUMNS as OF_FIGURES
 from .figures import COST, WINDOW
 from .jobs import Jobs, collect, head_of, print_jobs, run_share, scripts_of
 from .junit import text_of
@@ -146,8 +142,14 @@ def given(kind: str) -> Callable[[str], Given]:
     return lambda words: Given(kind, words)
 
 
+def description() -> str:
+    """The help, with the names of the columns that are figures."""
+    names = fill(f"{', '.join(OF_FIGURES)}: figures, as docs/STATISTICS.md has them", 110, subsequent_indent=" " * 12)
+    return (__doc__ or "").replace("FURTHER", names)
+
+
 def options_of(words: Sequence[str]) -> argparse.Namespace:
-    parser = Parser(__doc__).take(
+    parser = Parser(description()).take(
         "--junit", "--spread", "--against", "--until", "--least", "--from", "--to", "--settling", "--window",
         "--columns", "--program", "--scripts", "--cluster", "--output", "--print-jobs", "--share", "--results",
         "--mark", "--collect", flags=["--table", "--v3", "--rest", "--print-scenario"], lists=["--require"],

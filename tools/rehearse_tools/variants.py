@@ -128,7 +128,7 @@ class Window(NamedTuple):
 
 class Outcome(NamedTuple):
     """The rows of a variant: one for each queue, or one with the reason why it failed; and the ages of its messages by
-    queue, if the log was read. A variant is lost if the program was ended by a signal, which says nothing of the
+    queue, if they are figures. A variant is lost if the program was ended by a signal, which says nothing of the
     variant: it must be run again."""
     rows: list[list[str]]
     ages: Mapping[str, Ages]
@@ -147,9 +147,9 @@ def horizon_of(scenario: Mapping[str, Any]) -> int:
 class Sweep:
     """A scenario, the settings to vary, and how a variant is run.
 
-    `needs_ages` says of a report if the ages of the messages are wanted as well, for which the log is read. If `extra`
-    wants any columns beside those of the report, the rows have all such columns, and where they are counted by the log
-    it is read for each run. With `reads_version_3` scenarios may have version 3.
+    `needs_ages` says of a report if the bounds of ages are wanted as well, which are figures. If `extra` wants any
+    columns beside those of the report, the rows have all such columns, and where they are counted by the log it is read
+    for each run. With `reads_version_3` scenarios may have version 3.
     """
 
     def __init__(self, path: str, settings: Settings, scripts: str, window: Window = Window(),
@@ -269,13 +269,13 @@ class Sweep:
     def command(self) -> list[str]:
         return [self.program, "run", *version_words(self.reads_version_3), "--scripts", self.scripts]
 
-    def run(self, words: Sequence[str], is_counted: bool) -> Ran:
-        """Runs the variant of some words, of which the log may be counted."""
+    def run(self, words: Sequence[str], has_figures: bool) -> Ran:
+        """Runs the variant of some words, with figures if they are wanted."""
         scenario = self.varied(words)
         first, end = self.window.first or 0, horizon_of(scenario)
-        counting = Counting(first, end, self.extra, ways_of(scenario)) if is_counted else None
-        figures = self.extra.figures(first, end, consumers_of(scenario))
-        return run(self.command(), written(scenario), counting, self.engine, figures)
+        figures = self.extra.figures(first, end, consumers_of(scenario)) if has_figures else None
+        counting = Counting(first, end, self.extra.with_doors, ways_of(scenario))
+        return run(self.command(), written(scenario), figures, counting, self.engine)
 
     def taken(self, scenarios: Sequence[dict[str, Any]], take: Take, jobs: int) -> list[Any]:
         """What `take` makes of the output of each of some scenarios, all of which the program accepts."""
@@ -290,9 +290,9 @@ class Sweep:
         words = self.settings.words(number)
         if self.interrupted:
             return Outcome([], {}, True)
-        is_counted = self.extra.with_doors or self.window.first is not None
-        ran = self.run(words, is_counted)
-        if ran.records is not None and not is_counted and self.needs_ages(ran.records):
+        has_figures = self.extra.is_any or self.window.first is not None
+        ran = self.run(words, has_figures)
+        if ran.records is not None and not has_figures and self.needs_ages(ran.records):
             ran = self.run(words, True)
         words = [word.strip('"') for word in words]
         if ran.records is None:
