@@ -14,13 +14,13 @@ SOURCES = os.path.join(ROOT, "crates", "sim_scenario", "src")
 FUNCTION = re.compile(r"\n( *)(?:pub(?:\(crate\))? )?fn (\w+).*?\n\1}|\nimpl[^\n]* for (\w+)", re.DOTALL)
 # A key that is read, or a function of the reader that reads others.
 READ = re.compile(
-    r'section\s*\.(required|optional|maybe)\(\s*"(\w+)",\s*&(\w+)(?:\(((?:[^()]|\([^()]*\))*)\)|\s*{[^}]*})?(?:,\s*([\w:]+))?,?\s*\)|'
+    r'(?:section|newer)\s*\.(required|optional|maybe)\(\s*"(\w+)",\s*&(\w+)(?:\(((?:[^()]|\([^()]*\))*)\)|\s*{[^}]*})?(?:,\s*([\w:]+))?,?\s*\)|'
     r'section\s*\.(bounds)\(\s*"(\w+)",\s*"(\w+)",\s*([\d_]+)|'
     r'section\s*\.(required_list)\("(\w+)"\)|'
     r'(agent_list)\([^"()]*(?:\(\))?[^"()]*"(\w+)"\)|'
-    r'\btime\(\s*"(\w+)",\s*"(\w+)",\s*"(\w+)",\s*section,?\s*\)|'
+    r'\btime\(\s*\w+,\s*"(\w+)",\s*"(\w+)",\s*"(\w+)",\s*section,?\s*\)|'
     r'\b(queue_list|kind|policy|latency|sending|forward|calls|stopping|scaling|failing|serving|'
-    r'outages|'
+    r'gap|service|outages|'
     r'stretches_by|one_stretch|groups|target)\(')
 # What the two bounds of a time have at most, and how many items a list has.
 TIME = re.compile(r'section\.bounds\(low, high, ([\d_]+)\)')
