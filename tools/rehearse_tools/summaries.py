@@ -368,7 +368,7 @@ def read_runs(paths: Iterable[str], reading: Reading = Reading()) -> list[Run]:
     try:
         return runs_unread(logs, reading)
     except (Fault, ValueError):
-        # what is wrong is told by the rows
+        # the rows say what is wrong
         return runs_read(logs, reading)
 
 
