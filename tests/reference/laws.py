@@ -308,8 +308,11 @@ def the_end(log: Log, scenario: Scenario) -> None:
 
 def dead_letters(log: Log, scenario: Scenario) -> None:
     """A message that comes back leaves for its queue's `dead_letter` if it was received exactly `max_receives` times
-    since it came, and is released if fewer times. It is never received more often. Without `dead_letter` none leaves."""
+    since it came, and is released if fewer times. It is never received more often. Without `dead_letter` none leaves.
+    What arrives from a queue left it so before, with the same origin, at least its latency before."""
     times: collections.Counter[str] = collections.Counter()
+    origins: dict[str, str] = {}
+    gone: dict[tuple[str, str, str], list[int]] = collections.defaultdict(list)
     for row in log:
         queue = scenario.queues[row.queue]
         times[row.message] += row.is_received()
@@ -318,6 +321,14 @@ def dead_letters(log: Log, scenario: Scenario) -> None:
         must(row.call != "release" or times[row.message] < most, row, "released though it should leave")
         left = times[row.message] == most and row.detail == queue.get("dead_letter")
         must(row.call != "redrive" or left, row, "left too early, or for another queue")
+        if row.comes():
+            origins[row.message] = row.origin()
+        if row.call == "redrive":
+            gone[row.queue, row.detail, origins[row.message]].append(row.at)
+        if row.call == "arrive" and row.agent in scenario.queues:
+            least, greatest = scenario.latency(row.agent)
+            may_be = any(at + least <= row.at <= at + greatest for at in gone[row.agent, row.queue, row.detail])
+            must(may_be, row, "arrives though it has not left")
 
 
 def receipts(log: Log, scenario: Scenario) -> None:
@@ -413,9 +424,35 @@ def time(log: Log, scenario: Scenario) -> None:
     must(all(end > scenario.horizon for end in waits.values()), None, "waits for ever")
 
 
+def retention(log: Log, scenario: Scenario) -> None:
+    """A message counts as enqueued when it comes, but a dead letter of a standard queue when it was enqueued before. Its
+    retention ends `retention_s` after that, but not before it comes. It expires exactly then, and no row names it as one
+    that is there from after that moment. The retention of what is left ends past the horizon. `expire` and `delete` tell
+    its age. At that very moment only a row behind the expiry of another message names it: this is not proved."""
+    since: dict[str, int] = {}
+    expiry: dict[str, int] = {}
+    expired: dict[str, int] = {}
+    for row in log:
+        message, queue = row.message, scenario.queues[row.queue]
+        if row.comes():
+            keeps = row.agent in scenario.queues and not queue["fifo"]
+            since[message] = since[row.origin()] = since[row.origin()] if keeps else row.at
+            expiry[message] = max(row.at, since[message] + 1000 * queue.get("retention_s", 345_600))
+        elif row.is_received() or row.is_changed() or row.call == "release" or row.leaves():
+            before = row.at < expiry[message] or row.at == expiry[message] == expired.get(row.queue)
+            must(row.at == expiry[message] if row.call == "expire" else before, row, "another end")
+            tells_age = row.answer in ("deleted", "expired")
+            must(not tells_age or int(row.detail) == row.at - since[message], row, "another age")
+            if row.call == "expire":
+                expired[row.queue] = row.at
+            if row.leaves():
+                expiry.pop(message)
+    must(all(at > scenario.horizon for at in expiry.values()), None, "stays too long")
+
+
 def delays(log: Log, scenario: Scenario) -> None:
-    """A message that was sent or forwarded to its queue is not received, changed, released, redriven or moved before its
-    delay is over: the send's own at a standard queue, else the queue's. What is released and was not in flight is so
+    """A message is not received, changed, released, redriven or moved before its delay is over: the send's own at a
+    standard queue, else the queue's; what was redriven or moved has none. What is released and was not in flight is so
     exactly at the end of its delay, once. A delay that goes on at the end of the log ends past the horizon. Rows are in
     the order of time, so no row comes behind the end of a delay that goes on."""
     given = Sends(log, scenario).given
@@ -443,63 +480,27 @@ def delays(log: Log, scenario: Scenario) -> None:
 def releases(log: Log, scenario: Scenario) -> None:
     """A message in flight is released, or leaves for the dead-letter queue, exactly when the timeout of its last receive
     or change ends. Until then it may be deleted or expire. If it is in flight at the end of the log, the timeout ends
-    past the horizon. Rows are in the order of time, so none comes behind the end of the timeout of what is in flight."""
+    past the horizon. Rows are in the order of time, so none comes behind the end of the timeout of what is in flight.
+    The timeout of a change ends at most 12 hours after the last receive."""
     ends: dict[str, int] = {}
+    since: dict[str, int] = {}
     for row in log:
         if row.is_received():
-            ends[row.message] = row.at + scenario.visibility_ms(row)
+            ends[row.message], since[row.message] = row.at + scenario.visibility_ms(row), row.at
         elif row.is_changed():
             must(row.at <= ends.get(row.message, row.at), row, "changed behind the end of the timeout")
             ends[row.message] = row.at + 1000 * int(row.detail)
+            must(ends[row.message] <= since[row.message] + LONGEST_FLIGHT_MS, row, "in flight for over 12 hours")
         elif row.call == "release" or row.leaves():
             end = ends.pop(row.message, row.at)
             must(row.at == end if row.call in ("release", "redrive") else row.at <= end, row, "not back just then")
     must(all(end > scenario.horizon for end in ends.values()), None, "not back by the end")
 
 
-# ---- laws that hold by the definitions ----
-def longest_flight(log: Log, scenario: Scenario) -> None:
-    """A message is in flight for at most 12 hours after its receive. One that its timeout brings back at a moment is not
-    changed or deleted by a call of that moment, which comes later."""
-    ends: dict[str, int] = {}
-    since: dict[str, int] = {}
-    for row in log:
-        message = row.message
-        if row.is_received():
-            ends[message], since[message] = row.at + scenario.visibility_ms(row), row.at
-        elif row.is_changed():
-            must(row.at < ends[message], row, "changed though it comes back")
-            ends[message] = row.at + 1000 * int(row.detail)
-            must(ends[message] <= since[message] + LONGEST_FLIGHT_MS, row, "in flight for over 12 hours")
-        elif row.call == "release" or row.leaves():
-            end = ends.pop(message, NEVER)
-            must(row.answer != "deleted" or row.at < end, row, "deleted though it comes back")
-
-
-def retention(log: Log, scenario: Scenario) -> None:
-    """From `retention_s` after it was enqueued on no row receives, changes, releases or removes a message but `expire`,
-    which has exactly that moment (its arrival's, if it arrives too old). It was enqueued when it came, but a dead letter
-    of a standard queue when it was enqueued before; `expire` and `delete` tell its age since then."""
-    since: dict[str, int] = {}
-    expiry: dict[str, int] = {}
-    for row in log:
-        message, queue = row.message, scenario.queues[row.queue]
-        if row.comes():
-            keeps = row.agent in scenario.queues and not queue["fifo"]
-            since[message] = since[row.origin()] = since[row.origin()] if keeps else row.at
-            expiry[message] = max(row.at, since[message] + 1000 * queue.get("retention_s", 345_600))
-        elif row.is_received() or row.is_changed() or row.call == "release" or row.leaves():
-            must(row.at == expiry[message] if row.call == "expire" else row.at < expiry[message], row, "another end")
-            tells_age = row.answer in ("deleted", "expired")
-            must(not tells_age or int(row.detail) == row.at - since[message], row, "another age")
-            if row.leaves():
-                expiry.pop(message)
-    must(all(at > scenario.horizon for at in expiry.values()), None, "stays too long")
-
-
 def fifo(log: Log, scenario: Scenario) -> None:
     """When a message of a FIFO queue is received, each message of its group that came before it and is still in the
-    queue was received by the same call; and no message of the group that came after it is in flight."""
+    queue was received by the same call; and no message of the group that came after it is in flight. A dead letter and
+    a moved message have the group of their origin. That a forward has the group of what was served is not proved."""
     given = Sends(log, scenario).given
     groups: dict[str, tuple[str, str]] = {}
     there: dict[tuple[str, str], list[str]] = collections.defaultdict(list)
@@ -524,6 +525,24 @@ def fifo(log: Log, scenario: Scenario) -> None:
             calls.pop(message, None)
             if row.leaves() and message in groups:
                 there[groups[message]].remove(message)
+
+
+# ---- laws that hold by the definitions ----
+def back_in_time(log: Log, scenario: Scenario) -> None:
+    """What its timeout brings back at a moment is not changed or deleted by a call of that moment, which comes later. No
+    receive lets a message stay in flight for over 12 hours."""
+    ends: dict[str, int] = {}
+    for row in log:
+        message = row.message
+        if row.is_received():
+            ends[message] = row.at + scenario.visibility_ms(row)
+            must(ends[message] <= row.at + LONGEST_FLIGHT_MS, row, "in flight for over 12 hours")
+        elif row.is_changed():
+            must(row.at < ends[message], row, "changed though it comes back")
+            ends[message] = row.at + 1000 * int(row.detail)
+        elif row.call == "release" or row.leaves():
+            end = ends.pop(message, NEVER)
+            must(row.answer != "deleted" or row.at < end, row, "deleted though it comes back")
 
 
 def deduplication(log: Log, scenario: Scenario) -> None:
@@ -700,7 +719,7 @@ def what_is_under_way(log: Log, scenario: Scenario, ending: Ending) -> None:
 
 
 LAWS: tuple[Callable[[Log, Scenario], None], ...] = (
-    in_flight, the_end, dead_letters, receipts, time, delays, releases, longest_flight, retention, fifo, deduplication,
+    in_flight, the_end, dead_letters, receipts, time, retention, delays, releases, fifo, back_in_time, deduplication,
     journeys, scalers, copies)
 
 

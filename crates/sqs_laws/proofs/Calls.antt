@@ -1,6 +1,6 @@
 -- The rows of each call of a queue are a chain of single moves.
-use Rattle.std.specs.Prelude.{All, Bool, List, None, Option, Some, [], count_by, false, get_or, length, map, true, ℕ, ◌+◌, ◌-◌, ◌++◌, ◌<◌, ◌==◌, ◌∷◌, ◌≡◌, ◌≢◌, ◌≤◌}
-use Rattle.std.proofs.Common.{ap, arith, refl, subst, sym, true≢false, ◌∙◌}
+use Rattle.std.specs.Prelude.{All, Bool, List, None, Option, Some, [], count_by, false, get_or, length, map, true, ℕ, ◌+◌, ◌-◌, ◌++◌, ◌<◌, ◌==◌, ◌∷◌, ◌≡◌, ◌≢◌, ◌≤◌, slice_get, nat_lt, if◌then◌else◌}
+use Rattle.std.proofs.Common.{ap, arith, refl, subst, sym, ◌∙◌}
 use Rattle.std.proofs.lemmas.Bool.{eqb-true}
 use Rattle.std.proofs.lemmas.Bool.Decides.{nat_tests}
 use Rattle.std.proofs.lemmas.List.Sums.{sum_by-cons}
@@ -18,7 +18,7 @@ use Rattle.sqs_redrive.specs.declared.answers.Got.{Got}
 use Rattle.sqs_redrive.specs.declared.settings.Policy.{Policy}
 use Rattle.sqs_redrive.specs.declared.settings.QueueSettings.{QueueSettings}
 use Rattle.sqs_redrive.specs.declared.transfers.Load.{Load}
-use Rattle.sqs_model.specs.Acts.{all_came_back, came_back, got_row, redrive_by}
+use Rattle.sqs_model.specs.Acts.{all_came_back, came_back, got_row, redrive_by, redrive_row}
 use Rattle.sqs_model.specs.Giving.{all_got, all_left, all_received, all_released}
 use Rattle.sqs_model.specs.Queue.{Queue, has_number, id_of, in_flight, is_in_flight, is_visible, numbered, taken_out, with_change}
 use Rattle.sqs_model.specs.Receive.{got_of, received}
@@ -30,10 +30,17 @@ use Rattle.sqs_model.proofs.Counts.{find_all, find_changed, find_picked, total, 
 use Rattle.sqs_model.proofs.Ledger.{bit}
 use Rattle.sqs_model.proofs.Giving.{find_apart}
 use Rattle.sqs_model.proofs.Numbered.{Apart, one_number, other_without}
-use Rattle.sqs_laws.specs.Laws.{is_actor_of, is_fifo}
+use Rattle.sqs_laws.specs.Laws.{is_fifo, MayArrive}
 use Rattle.sqs_laws.specs.Words as words
 use Rattle.sqs_laws.specs.Sends.{milliseconds_or}
-use Rattle.sqs_laws.proofs.Moves.{FitsSender, IsAskedFor, Chain, IsNext, IsBehind, IsStocked, Move, Tells, chain_append, of_none, one_move, receives, redrives, releases, actors_of, asks_later}
+use Rattle.sqs_laws.proofs.Moves.{FitsSender, IsAskedFor, Chain, IsNext, IsBehind, IsStocked, Move, Tells, chain_append, of_none, one_move, receives, redrives, releases, actors_of, asks_later, IsTraced, IsUnderWay, AreTraced, chain_keeps}
+use Rattle.sqs_laws.proofs.Traces.{chain_traces, sent_later, group_later}
+use Rattle.sqs_model.proofs.Effects.{latency_least}
+use Rattle.sqs_model.specs.Draw.{drawn_latency, Draws, drawn_uniform}
+use Rattle.std.proofs.lemmas.Option.{slice_get_within}
+use Rattle.std.proofs.lemmas.List.{append_assoc}
+use Rattle.sqs_redrive.specs.declared.transfers.Outbound.{Outbound}
+use Rattle.sqs_redrive.specs.declared.settings.Latency.{Latency}
 
 -- what a row tells, each as it computes
 pub tells : (r : Row) (a b c d e : Bool) → words.comes r ≡ a → words.received r ≡ b → words.changed r ≡ c → words.is_release r.kind ≡ d → words.leaves r ≡ e → Tells r a b c d e
@@ -61,12 +68,6 @@ pushed_out n [] m e h = let is : has_number n m ≡ true = grind (arith, nat_tes
 pushed_out n (x ∷ xs) m e h =
     let other : has_number n x ≡ false = let l : x.number < n = All-head (λ y. y.number < n) x xs h in grind (arith, nat_tests) in
     rw other (ap (λ t. x ∷ t) (pushed_out n xs m e (All-tail (λ y. y.number < n) x xs h)))
-
-pub pushed_found : (n : ℕ) (ms : List Message) (m : Message) → m.number ≡ n → All (λ x. x.number < n) ms → numbered n (ms ++ m ∷ []) ≡ Some m
-pushed_found n [] m e h = let is : has_number n m ≡ true = grind (arith, nat_tests, e) in rw is refl
-pushed_found n (x ∷ xs) m e h =
-    let other : has_number n x ≡ false = let l : x.number < n = All-head (λ y. y.number < n) x xs h in grind (arith, nat_tests) in
-    rw other (pushed_found n xs m e (All-tail (λ y. y.number < n) x xs h))
 
 -- what a consumer learns of messages that it receives, one for each
 pub record IsToldOf (site : ℕ) (m : Message) (g : Got) : Type 0 where
@@ -103,6 +104,13 @@ flights_changed q n f m s a b =
     let before : bit (is_in_flight m) ≡ 0 = ap bit a in
     let now : bit (is_in_flight (f m)) ≡ 1 = ap bit b in
     omega (arith, flights_are q.records, flights_are (changed (has_number n) f q.records), total_changed (has_number n) (λ (x : Message). bit (is_in_flight x)) f q.records m s, before, now)
+
+-- what leaves arrives after a latency that is drawn
+may_arrive : (l : Latency) (d : Draws) (left : ℕ) → MayArrive l left (left + (drawn_latency l d).0)
+may_arrive l d left = (
+  let least : l.least ≤ (drawn_latency l d).0 = latency_least l d in omega (arith, least),
+  λ w. let only : nat_lt l.least l.greatest ≡ false = grind (arith, nat_tests, w) in ap (λ b. left + (if b then drawn_uniform l.least l.greatest d else (l.least, d)).0) only,
+)
 
 module _ (key : Key) where
   -- messages that are received
@@ -157,7 +165,8 @@ module _ (key : Key) where
         sends = λ e. cc;
         enters = λ e. cc;
         repeats = λ e. cc;
-        arrives = λ e. cc;
+        brought = λ e. cc;
+        ends = λ _ e. cc;
         timed = λ e n one i h.
             let id : g.id ≡ id_of q n = cc in
             let is : m.number ≡ n = sym (ap (λ (y : MessageId). y.number) t.id) ∙ ap (λ (y : MessageId). y.number) id in
@@ -185,54 +194,90 @@ module _ (key : Key) where
   received_chain u past c agent timeout [] (g ∷ gs) q a e t d s v l o = absurd t
   received_chain u past c agent timeout (m ∷ ms) [] q a e t d s v l o = absurd t
 
+  -- what comes back: its rows are a chain, and what it sends is under way
+  pub record Returns (u : Scenario) (past : List Row) (q p : Queue) (e : Effect) : Type 0 where
+    pub chain : Chain u past key q e.rows p
+    pub sent : All (FitsSender u (past ++ e.rows)) e.sent
+
+  -- a dead letter that leaves by a row
+  leaves_by : (u : Scenario) (past : List Row) (q : Queue) (d : Core) (n : ℕ) (m : Message) (p : Policy) → slice_get u.queues q.site ≡ Some q.settings → d.queue.site ≡ q.site → q.settings.policy ≡ Some p → m.number ≡ n → IsTraced u past (id_of q m.number) m
+      → IsUnderWay u (past ++ redrive_row key d n p.dead_letter ∷ []) (record { at = key.at + (drawn_latency p.latency d.draws).0; sender = d.queue.site; number = d.sent; from = d.queue.site; to = p.dead_letter; load = redrive_of q m }) (id_of q m.number) m.group m.origin m.enqueued
+  leaves_by u past q d n m p home e b i t =
+      record {
+        sender = let inside : q.site < length u.queues = slice_get_within u.queues q.site q.settings home in omega (arith, inside, e);
+        left = redrive_row key d n p.dead_letter;
+        before = past;
+        after = [];
+        split = refl;
+        redriven = refl;
+        named = ap (λ s. Some (record { site = s; number = n })) e ∙ ap (λ k. Some (id_of q k)) (sym i);
+        from = refl;
+        to = refl;
+        late = λ x (s, f, g).
+            let own : Some q.settings ≡ Some s = sym home ∙ ap (λ k. slice_get u.queues k) (sym e) ∙ f in
+            let is : q.settings ≡ s = cc in
+            let same : Some p ≡ Some x = sym b ∙ ap (λ (y : QueueSettings). y.policy) is ∙ g in
+            let one : p ≡ x = cc in
+            subst (λ (y : Policy). MayArrive y.latency key.at (key.at + (drawn_latency p.latency d.draws).0)) one (may_arrive p.latency d.draws key.at);
+        told = t.origin;
+        since = t.enqueued;
+        of_group = group_later u past (redrive_row key d n p.dead_letter ∷ []) m.origin m.group t.group;
+      }
+
   -- a message that comes back
   back_when :
-      (u : Scenario) (past : List Row) (b : Bool) (o : Option Policy) (q : Queue) (d : Core) (n : ℕ) (m : Message) → d.queue.site ≡ q.site → q.settings.policy ≡ o → d.queue.settings.policy ≡ o → leaves o m ≡ b → numbered n q.records ≡ Some m → m.release ≡ Some key.at
-      → Chain u past key q (came_back key d n (released_when b q n m).1).rows (released_when b q n m).0
-  back_when u past false o q d n m e p k l f w =
-      one_move u past key q _ _
-      (record {
-        at_key = refl;
-        at_site = e;
-        asked = tt;
-        does =
-            releases
+      (u : Scenario) (past : List Row) (b : Bool) (o : Option Policy) (q : Queue) (d : Core) (n : ℕ) (m : Message) → slice_get u.queues q.site ≡ Some q.settings → m.number ≡ n → IsTraced u past (id_of q m.number) m → d.queue.site ≡ q.site → q.settings.policy ≡ o → d.queue.settings.policy ≡ o → leaves o m ≡ b → numbered n q.records ≡ Some m → m.release ≡ Some key.at
+      → Returns u past q (released_when b q n m).0 (came_back key d n (released_when b q n m).1)
+  back_when u past false o q d n m home i t e p k l f w =
+      record {
+        sent = All-nil (FitsSender u (past ++ _));
+        chain =
+            one_move u past key q _ _
             (record {
-              one = m;
-              number = n;
-              tells = tells _ false false false true false refl refl refl refl refl;
-              names = record { there = f; message = ap (λ s. Some (record { site = s; number = n })) e; sure = refl };
-              due = w;
-              lasts = ap (λ x. leaves x m) p ∙ l;
-              after = refl;
-            });
-      }) (of_none u past q _ _ refl refl refl)
-  back_when u past true None q d n m e p k l f w = cc
-  back_when u past true (Some policy) q d n m e p k l f w =
-      let rows : List Row = (redrive_by (Some policy) key d n (redrive_of q m)).rows in
-      subst (λ x. Chain u past key q (redrive_by x key d n (redrive_of q m)).rows (taken_out q n)) (sym k)
-      (one_move u past key q _ _
+              at_key = refl;
+              at_site = e;
+              asked = tt;
+              does =
+                  releases
+                  (record {
+                    one = m;
+                    number = n;
+                    tells = tells _ false false false true false refl refl refl refl refl;
+                    names = record { there = f; message = ap (λ s. Some (record { site = s; number = n })) e; sure = refl };
+                    due = w;
+                    lasts = ap (λ x. leaves x m) p ∙ l;
+                    after = refl;
+                  });
+            }) (of_none u past q _ _ refl refl refl refl);
+      }
+  back_when u past true None q d n m home i t e p k l f w = cc
+  back_when u past true (Some policy) q d n m home i t e p k l f w =
+      subst (λ x. Returns u past q (taken_out q n) (redrive_by x key d n (redrive_of q m))) (sym k)
       (record {
-        at_key = refl;
-        at_site = e;
-        asked = tt;
-        does =
-            redrives
+        sent = All-cons (FitsSender u (past ++ _)) _ [] (leaves_by u past q d n m policy home e p i t) (All-nil (FitsSender u (past ++ _)));
+        chain = one_move u past key q _ _
             (record {
-              one = m;
-              number = n;
-              policy = policy;
-              tells = tells _ false false false false true refl refl refl refl refl;
-              names = record { there = f; message = ap (λ s. Some (record { site = s; number = n })) e; sure = refl };
-              due = w;
-              by = p;
-              worn = l;
-              out = refl;
-              kind = refl;
-              to = refl;
-              after = refl;
-            });
-      }) (of_none u past q _ _ refl refl refl))
+              at_key = refl;
+              at_site = e;
+              asked = tt;
+              does =
+                  redrives
+                  (record {
+                    one = m;
+                    number = n;
+                    policy = policy;
+                    tells = tells _ false false false false true refl refl refl refl refl;
+                    names = record { there = f; message = ap (λ s. Some (record { site = s; number = n })) e; sure = refl };
+                    due = w;
+                    by = p;
+                    worn = l;
+                    out = refl;
+                    kind = refl;
+                    to = refl;
+                    after = refl;
+                  });
+            }) (of_none u past q _ _ refl refl refl refl);
+      })
 
   -- a row about it leaves the site's queue, actors and polls as they are
   pub record Told (d e : Core) : Type 0 where
@@ -247,30 +292,16 @@ module _ (key : Key) where
   back_told d n None = record { queue = refl; actors = refl }
   back_told d n (Some load) = redriven_told d n load d.queue.settings.policy
 
-  -- what it sends is no forward of an actor
-  pub back_fits : (u : Scenario) (d : Core) (n : ℕ) (o : Option Load) → is_actor_of u d.queue.site ≡ false → All (FitsSender u) (came_back key d n o).sent
-  back_fits u d n None h = All-nil (FitsSender u)
-  back_fits u d n (Some load) h = redriven_fits d.queue.settings.policy
-    where
-      redriven_fits : (p : Option Policy) → All (FitsSender u) (redrive_by p key d n load).sent
-      redriven_fits None = All-nil (FitsSender u)
-      redriven_fits (Some p) = All-cons (FitsSender u) _ [] (λ e. absurd (true≢false (sym e ∙ h))) (All-nil (FitsSender u))
-
-  pub all_fit : (u : Scenario) (gots : List Got) (d : Core) → is_actor_of u d.queue.site ≡ false → All (FitsSender u) (all_came_back key gots d).sent
-  all_fit u [] d h = All-nil (FitsSender u)
-  all_fit u (g ∷ gs) d h =
-      let f : Effect = came_back key d g.id.number g.left in
-      All-append (FitsSender u) f.sent (all_came_back key gs f.core).sent (back_fits u d g.id.number g.left h)
-      (all_fit u gs f.core (ap (λ (q : Queue). is_actor_of u q.site) (back_told d g.id.number g.left).queue ∙ h))
-
   pub one_back :
-      (u : Scenario) (past : List Row) (q : Queue) (d : Core) (n : ℕ) (m : Message) → d.queue.site ≡ q.site → d.queue.settings ≡ q.settings → numbered n q.records ≡ Some m → m.release ≡ Some key.at
-      → Chain u past key q (came_back key d n (released q n).1).rows (released q n).0
-  one_back u past q d n m e s f w =
+      (u : Scenario) (past : List Row) (q : Queue) (d : Core) (n : ℕ) (m : Message) → slice_get u.queues q.site ≡ Some q.settings → AreTraced u past q → d.queue.site ≡ q.site → d.queue.settings ≡ q.settings → numbered n q.records ≡ Some m → m.release ≡ Some key.at
+      → Returns u past q (released q n).0 (came_back key d n (released q n).1)
+  one_back u past q d n m home h e s f w =
       let same : d.queue.settings.policy ≡ q.settings.policy = ap (λ (x : QueueSettings). x.policy) s in
       let back : Queue × Option Load = released_when (leaves q.settings.policy m) q n m in
-      subst (λ x. Chain u past key q (came_back key d n (released_found q n x).1).rows (released_found q n x).0) (sym f)
-      (back_when u past (leaves q.settings.policy m) q.settings.policy q d n m e refl same refl f w)
+      let number : m.number ≡ n = eqb-true m.number n (find_picked (has_number n) q.records m f) in
+      let traced : IsTraced u past (id_of q m.number) m = find_all (has_number n) (λ x. IsTraced u past (id_of q x.number) x) q.records m h.each f in
+      subst (λ x. Returns u past q (released_found q n x).0 (came_back key d n (released_found q n x).1)) (sym f)
+      (back_when u past (leaves q.settings.policy m) q.settings.policy q d n m home number traced e refl same refl f w)
 
   -- messages that come back one after another, each told with what left
   abbrev pub AreBack : Queue → List Message → List Got → Type 0
@@ -312,27 +343,35 @@ module _ (key : Key) where
       let x : Message = get_or ms i e in
       subst IsDueNow (sym (other_back_found (numbered m.number q.records) q x.number m.number (d i e l))) (s i e l)
 
-  found_by : (u : Scenario) (past : List Row) (q : Queue) (d : Core) (n : ℕ) (o : Option Message) → numbered n q.records ≡ o → IsDueNow o → d.queue.site ≡ q.site → d.queue.settings ≡ q.settings → Chain u past key q (came_back key d n (released q n).1).rows (released q n).0
-  found_by u past q d n None f t e s = absurd t
-  found_by u past q d n (Some m) f t e s = one_back u past q d n m e s f t
+  found_by : (u : Scenario) (past : List Row) (q : Queue) (d : Core) (n : ℕ) (o : Option Message) → slice_get u.queues q.site ≡ Some q.settings → AreTraced u past q → numbered n q.records ≡ o → IsDueNow o → d.queue.site ≡ q.site → d.queue.settings ≡ q.settings → Returns u past q (released q n).0 (came_back key d n (released q n).1)
+  found_by u past q d n None home h f t e s = absurd t
+  found_by u past q d n (Some m) home h f t e s = one_back u past q d n m home h e s f t
 
   pub back_chain :
-      (u : Scenario) (past : List Row) (ms : List Message) (gots : List Got) (q : Queue) (d : Core) → d.queue.site ≡ q.site → d.queue.settings ≡ q.settings → AreBack q ms gots → Apart ms → AreThere q ms
-      → Chain u past key q (all_came_back key gots d).rows (all_released ms q)
-  back_chain u past [] [] q d e s b a t = refl
-  back_chain u past (m ∷ ms) (g ∷ gs) q d e s b a t =
+      (u : Scenario) (past : List Row) (ms : List Message) (gots : List Got) (q : Queue) (d : Core) → slice_get u.queues q.site ≡ Some q.settings → IsStocked q → AreTraced u past q → d.queue.site ≡ q.site → d.queue.settings ≡ q.settings → AreBack q ms gots → Apart ms → AreThere q ms
+      → Returns u past q (all_released ms q) (all_came_back key gots d)
+  back_chain u past [] [] q d home k h e s b a t = record { chain = refl; sent = All-nil (FitsSender u (past ++ [])) }
+  back_chain u past (m ∷ ms) (g ∷ gs) q d home k h e s b a t =
       let x : Queue = (released q m.number).0 in
       let f : Effect = came_back key d g.id.number g.left in
       let same : Told d f.core = back_told d g.id.number g.left in
       let frame = frame_found (numbered m.number q.records) q m.number in
-      let one : Chain u past key q (came_back key d m.number (released q m.number).1).rows x = found_by u past q d m.number (numbered m.number q.records) refl (All-head (λ y. IsDueNow (numbered y.number q.records)) m ms t) e s in
-      let here : Chain u past key q f.rows x = subst (λ n. Chain u past key q (came_back key d n g.left).rows x) (sym b.0) (subst (λ l. Chain u past key q (came_back key d m.number l).rows x) (sym b.1) one) in
+      let one : Returns u past q x (came_back key d m.number (released q m.number).1) = found_by u past q d m.number (numbered m.number q.records) home h refl (All-head (λ y. IsDueNow (numbered y.number q.records)) m ms t) e s in
+      let here : Returns u past q x f = subst (λ n. Returns u past q x (came_back key d n g.left)) (sym b.0) (subst (λ l. Returns u past q x (came_back key d m.number l)) (sym b.1) one) in
       let site : f.core.queue.site ≡ x.site = ap (λ (y : Queue). y.site) same.queue ∙ e ∙ sym frame.0 in
       let settings : f.core.queue.settings ≡ x.settings = ap (λ (y : Queue). y.settings) same.queue ∙ s ∙ sym frame.1 in
-      chain_append u past key f.rows (all_came_back key gs f.core).rows q x (all_released ms x) here
-      (back_chain u (past ++ f.rows) ms gs x f.core site settings b.2 a.1 (back_there q m ms a.0 (All-tail (λ y. IsDueNow (numbered y.number q.records)) m ms t)))
-  back_chain u past [] (g ∷ gs) q d e s b a t = absurd b
-  back_chain u past (m ∷ ms) [] q d e s b a t = absurd b
+      let place : slice_get u.queues x.site ≡ Some x.settings = ap (λ n. slice_get u.queues n) frame.0 ∙ home ∙ ap (λ y. Some y) (sym frame.1) in
+      let behind : List Row = past ++ f.rows in
+      let rest : Returns u behind x (all_released ms x) (all_came_back key gs f.core) =
+      back_chain u behind ms gs x f.core place (chain_keeps u past key f.rows q x here.chain k).stocked (chain_traces u past key f.rows q x home k here.chain h) site settings b.2 a.1 (back_there q m ms a.0 (All-tail (λ y. IsDueNow (numbered y.number q.records)) m ms t)) in
+      let last : List Row = (all_came_back key gs f.core).rows in
+      let more : (os : List Outbound) → All (FitsSender u (behind ++ last)) os → All (FitsSender u (past ++ (f.rows ++ last))) os = λ os. subst (λ r. All (FitsSender u r) os) (append_assoc past f.rows last) in
+      record {
+        chain = chain_append u past key f.rows last q x (all_released ms x) here.chain rest.chain;
+        sent = All-append (FitsSender u (past ++ (f.rows ++ last))) f.sent (all_came_back key gs f.core).sent (more f.sent (sent_later u behind last f.sent here.sent)) (more (all_came_back key gs f.core).sent rest.sent);
+      }
+  back_chain u past [] (g ∷ gs) q d home k h e s b a t = absurd b
+  back_chain u past (m ∷ ms) [] q d home k h e s b a t = absurd b
 
   pub all_told : (gots : List Got) (d : Core) → Told d (all_came_back key gots d).core
   all_told [] d = record { queue = refl; actors = refl }

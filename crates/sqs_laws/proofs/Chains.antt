@@ -1,5 +1,5 @@
 -- The rows of a handling are a chain of single moves.
-use Rattle.std.specs.Prelude.{All, List, None, Option, Result, Some, [], false, find, ℕ, ◌+◌, ◌++◌, ◌∷◌, ◌≡◌, ◌≤◌}
+use Rattle.std.specs.Prelude.{All, List, None, Option, Result, Some, [], false, find, ℕ, ◌+◌, ◌++◌, ◌∷◌, ◌≡◌, ◌≤◌, slice_get, length}
 use Rattle.std.proofs.Common.{ap, arith, inl, refl, subst, sym, ◌∙◌, true}
 use Rattle.std.proofs.lemmas.List.{append-nil, append_assoc}
 use Rattle.std.proofs.lemmas.List.Elements.{All-append, All-drop, All-nil, All-push, All-weaker}
@@ -31,11 +31,10 @@ use Rattle.sqs_redrive.specs.declared.transfers.Outbound.{Outbound}
 use Rattle.sqs_redrive.specs.Transfers.{transfer_key}
 use Rattle.sim_clock.proofs.Least.{key_tied}
 use Rattle.sqs_model.specs.Task.{Task}
-use Rattle.sqs_model.proofs.Forwards.{CarriesForward, SendsForwards, next_forwards}
-use Rattle.sqs_model.proofs.Sending.{IsForward}
+use Rattle.sqs_model.proofs.Sending.{IsForward, Sends, sends_as}
 use Rattle.sqs_model.proofs.CallWalk.{effect_of, IsDone, CallLaw, DueLaw, IsNameless, IsTold, handled_goes}
 use Rattle.sqs_model.proofs.Counts.{all_changed, all_without, find_all, find_picked}
-use Rattle.sqs_model.proofs.Decisions.{next_decides}
+use Rattle.sqs_model.proofs.Decisions.{forward_of, next_decides}
 use Rattle.sqs_model.proofs.Members.{In, all_each, in_right}
 use Rattle.sqs_model.proofs.Sites.{each_all}
 use Rattle.sqs_model.proofs.SiteAccounts.{IsDueThere, IsFound}
@@ -44,8 +43,13 @@ use Rattle.sqs_laws.proofs.Giving.{AreKnown, IsGiven, most_given}
 use Rattle.sqs_laws.proofs.Holding.{AsksOwn, HearsOfKnown, IsInformed, ServesKnown, informed_later, known_later, next_acts}
 use Rattle.sqs_laws.proofs.Numbers.{AreOver}
 use Rattle.sqs_laws.proofs.Polled.{IsPolled, asks_now, polled_asks, polled_later, waits_now}
-use Rattle.sqs_laws.proofs.Moves.{FitsSender, IsAskedFor, Chain, IsStocked, Keeps, chain_append, chain_keeps, one_move, asks_later}
-use Rattle.sqs_laws.proofs.Rows.{step_of, stepped_task, nameless_none, IsChain, arrived_chain, change_chain, delete_chain, expiry_chain, quiet_move, release_chain, sends_chain, serve_chain, step_chain}
+use Rattle.sqs_laws.proofs.Moves.{FitsSender, IsAskedFor, Chain, IsStocked, Keeps, chain_append, chain_keeps, one_move, asks_later, AreTraced, FitsLoad}
+use Rattle.sqs_laws.proofs.Rows.{step_of, stepped_task, nameless_none, IsChain, arrived_chain, change_chain, delete_chain, expiry_chain, quiet_move, release_chain, sends_chain, serve_chain, step_chain, IsArriving}
+use Rattle.sqs_laws.proofs.Traces.{chain_traces, sent_later}
+use Rattle.sqs_model.proofs.ConsumerWakes.{MayForwardBy}
+use Rattle.sqs_redrive.specs.declared.transfers.Load.{Load}
+use Rattle.sqs_redrive.specs.declared.transfers.Load.TheVariants.{Forward, Move as Moves, Redrive}
+use Rattle.sqs_model.specs.declared.agents.Forwarding.{Forwarding}
 
 -- a site whose queue's messages are in order, whose actors hold only messages of it, and whose polls were asked for
 pub record IsInOrder (u : Scenario) (rows : List Row) (c : Core) : Type 0 where
@@ -53,12 +57,28 @@ pub record IsInOrder (u : Scenario) (rows : List Row) (c : Core) : Type 0 where
   pub numbers : AreOfScenario u c.actors
   pub actors : All (IsInformed c.queue.site c.queue.arrivals) c.actors
   pub polls : All (IsPolled u rows) c.polls
-  pub tasks : All (λ t. is_actor_of u t.number ≡ false) c.tasks
+  pub tasks : All (λ t. length u.queues + length u.actors ≤ t.number) c.tasks
 
 pub order_later : (u : Scenario) (rows more : List Row) (c : Core) → IsInOrder u rows c → IsInOrder u (rows ++ more) c
 order_later u rows more c h = record { stocked = h.stocked; numbers = h.numbers; actors = h.actors; polls = All-weaker (IsPolled u rows) (IsPolled u (rows ++ more)) (polled_later u rows more) c.polls h.polls; tasks = h.tasks }
 
-module _ (u : Scenario) (past : List Row) (key : Key) (start : Queue) (fine : IsStocked start) (home : is_actor_of u start.site ≡ false) where
+-- a forward of an actor of the scenario, which alone acts send
+abbrev IsForwardOf : Scenario → Outbound → Type 0
+IsForwardOf u o = IsForward o.load × (is_actor_of u o.sender ≡ true)
+
+forward_fits : (u : Scenario) (rows : List Row) (o : Outbound) (load : Load) → IsForward load → is_actor_of u o.sender ≡ true → FitsLoad u rows o load
+forward_fits u rows o (Redrive id group origin body enqueued) f a = absurd f
+forward_fits u rows o (Moves id group origin body) f a = absurd f
+forward_fits u rows o (Forward id group body) f a = a
+
+own_forward : (u : Scenario) (now : ℕ) (a : Actor) (f : Option Forwarding) (o : Outbound) → is_actor_of u a.number ≡ true → MayForwardBy now a f o → IsForwardOf u o
+own_forward u now a None o i h = absurd h
+own_forward u now a (Some f) o i h = (h.load, ap (is_actor_of u) h.sender ∙ i)
+
+own_forwards : (u : Scenario) (now : ℕ) (a : Actor) (w : Answer) → is_actor_of u a.number ≡ true → Sends (IsForwardOf u) (next a now w).0
+own_forwards u now a w i = sends_as (MayForwardBy now a (forward_of a.settings.role)) (IsForwardOf u) (λ o. own_forward u now a (forward_of a.settings.role) o i) (next a now w).0 (next_decides now a w).sends
+
+module _ (u : Scenario) (past : List Row) (key : Key) (start : Queue) (fine : IsStocked start) (home : slice_get u.queues start.site ≡ Some start.settings) (traced : AreTraced u past start) where
   -- a poll that was asked for, and has not ended
   abbrev pub IsOpen : List Row → Poll → Type 0
   IsOpen rows p = IsPolled u rows p × (key.at ≤ p.end)
@@ -74,19 +94,22 @@ module _ (u : Scenario) (past : List Row) (key : Key) (start : Queue) (fine : Is
     pub numbers : AreOfScenario u c.actors
     pub actors : All (IsInformed c.queue.site c.queue.arrivals) c.actors
     pub polls : All (IsOpen (past ++ rows)) c.polls
-    pub tasks : All (λ t. is_actor_of u t.number ≡ false) c.tasks
+    pub tasks : All (λ t. length u.queues + length u.actors ≤ t.number) c.tasks
 
   abbrev pub After : List Row → Effect → Type 0
-  After rows e = At (rows ++ e.rows) e.core × All (FitsSender u) e.sent
+  After rows e = At (rows ++ e.rows) e.core × All (FitsSender u (past ++ (rows ++ e.rows))) e.sent
 
-  none_sent : All (FitsSender u) []
-  none_sent = All-nil (FitsSender u)
+  none_sent : (rows : List Row) → All (FitsSender u (past ++ rows)) []
+  none_sent rows = All-nil (FitsSender u (past ++ rows))
 
   kept : (rows : List Row) (c : Core) → At rows c → Keeps start c.queue
   kept rows c h = chain_keeps u past key rows start c.queue h.chain fine
 
-  here : (rows : List Row) (c : Core) → At rows c → is_actor_of u c.queue.site ≡ false
-  here rows c h = ap (is_actor_of u) (sym (kept rows c h).site) ∙ home
+  here : (rows : List Row) (c : Core) → At rows c → slice_get u.queues c.queue.site ≡ Some c.queue.settings
+  here rows c h = ap (λ n. slice_get u.queues n) (sym (kept rows c h).site) ∙ home ∙ ap (λ y. Some y) (kept rows c h).settings
+
+  traces : (rows : List Row) (c : Core) → At rows c → AreTraced u (past ++ rows) c.queue
+  traces rows c h = chain_traces u past key rows start c.queue home fine h.chain traced
 
   stocked : (rows : List Row) (c : Core) → At rows c → IsStocked c.queue
   stocked rows c h = (kept rows c h).stocked
@@ -94,8 +117,8 @@ module _ (u : Scenario) (past : List Row) (key : Key) (start : Queue) (fine : Is
   -- a task that starts or is cancelled
   with_one : (rows : List Row) (c : Core) (n : ℕ) (t x : Task) → task_numbered n c ≡ Some t → x.number ≡ t.number → At rows c → At rows (with_task c x)
   with_one rows c n t x e f h =
-      let own : is_actor_of u t.number ≡ false = find_all (is_task n) (λ y. is_actor_of u y.number ≡ false) c.tasks t h.tasks e in
-      record { chain = h.chain; numbers = h.numbers; actors = h.actors; polls = h.polls; tasks = all_changed (is_task x.number) (λ y. is_actor_of u y.number ≡ false) (λ _. x) (λ _ _. ap (is_actor_of u) f ∙ own) c.tasks h.tasks }
+      let own : length u.queues + length u.actors ≤ t.number = find_all (is_task n) (λ y. length u.queues + length u.actors ≤ y.number) c.tasks t h.tasks e in
+      record { chain = h.chain; numbers = h.numbers; actors = h.actors; polls = h.polls; tasks = all_changed (is_task x.number) (λ y. length u.queues + length u.actors ≤ y.number) (λ _. x) (λ _ _. omega (arith, f, own)) c.tasks h.tasks }
 
   -- what actors hold, of a queue that follows another
   informed : (c : Core) (q : Queue) (actors : List Actor) → Keeps c.queue q → actors ≡ c.actors → All (IsInformed c.queue.site c.queue.arrivals) c.actors → All (IsInformed q.site q.arrivals) actors
@@ -110,10 +133,18 @@ module _ (u : Scenario) (past : List Row) (key : Key) (start : Queue) (fine : Is
       numbers = subst (AreOfScenario u) (sym (ap (λ x. x.0) i.actors)) h.numbers;
       actors = informed c e.core.queue e.core.actors (chain_keeps u (past ++ rows) key e.rows c.queue e.core.queue i.chain (stocked rows c h)) (ap (λ x. x.0) i.actors) h.actors;
       polls = subst (All (IsOpen (past ++ (rows ++ e.rows)))) (sym (ap (λ x. x.1) i.actors)) (open_later rows e.rows c.polls h.polls);
-      tasks = subst (All (λ t. is_actor_of u t.number ≡ false)) (sym (ap (λ x. x.2) i.actors)) h.tasks;
+      tasks = subst (All (λ t. length u.queues + length u.actors ≤ t.number)) (sym (ap (λ x. x.2) i.actors)) h.tasks;
     },
-    i.sent,
+    subst (λ r. All (FitsSender u r) e.sent) (append_assoc past rows e.rows) i.sent,
   )
+
+  -- what two effects send, one after the other
+  both_sent : (rows : List Row) (e f : Effect) → All (FitsSender u (past ++ (rows ++ e.rows))) e.sent → All (FitsSender u (past ++ ((rows ++ e.rows) ++ f.rows))) f.sent → All (FitsSender u (past ++ (rows ++ (e.rows ++ f.rows)))) (e.sent ++ f.sent)
+  both_sent rows e f g h =
+      let whole : List Row = past ++ (rows ++ (e.rows ++ f.rows)) in
+      let same : past ++ ((rows ++ e.rows) ++ f.rows) ≡ whole = ap (λ r. past ++ r) (append_assoc rows e.rows f.rows) in
+      let more : All (FitsSender u ((past ++ (rows ++ e.rows)) ++ f.rows)) e.sent = sent_later u (past ++ (rows ++ e.rows)) f.rows e.sent g in
+      All-append (FitsSender u whole) e.sent f.sent (subst (λ r. All (FitsSender u r) e.sent) (append_assoc past (rows ++ e.rows) f.rows ∙ same) more) (subst (λ r. All (FitsSender u r) f.sent) same h)
 
   at_rows : (rows more : List Row) (c : Core) → rows ≡ more → At rows c → At more c
   at_rows rows more c e h = subst (λ r. At r c) e h
@@ -127,7 +158,7 @@ module _ (u : Scenario) (past : List Row) (key : Key) (start : Queue) (fine : Is
       polls = open_later rows (r ∷ []) d.polls k.polls;
       tasks = k.tasks;
     },
-    none_sent,
+    none_sent (rows ++ r ∷ []),
   )
 
   abbrev pub Hears : Core → List Got → Type 0
@@ -146,7 +177,7 @@ module _ (u : Scenario) (past : List Row) (key : Key) (start : Queue) (fine : Is
       let x : Queue × List Got = give_most c.queue key.at max timeout set in
       let e : Effect = given key c agent timeout x in
       let behind : List Row = past ++ rows in
-      let g : IsGiven u behind key c agent timeout a (here rows c h) x = most_given u behind key c agent timeout a (here rows c h) max set (stocked rows c h) in (
+      let g : IsGiven u behind key c agent timeout a (here rows c h) (traces rows c h) x = most_given u behind key c agent timeout a (here rows c h) (traces rows c h) max set (stocked rows c h) in (
         extends rows c e h (record { chain = g.chain; actors = g.actors; sent = g.sent }),
         later_heard c e.core.queue x.1 (chain_keeps u behind key e.rows c.queue e.core.queue g.chain (stocked rows c h)) g.known,
       )
@@ -169,7 +200,7 @@ module _ (u : Scenario) (past : List Row) (key : Key) (start : Queue) (fine : Is
 
   -- what an act may be: it serves a message that is known, and gives the group that is told
   abbrev pub Allows : Core → Actor → Act → Type 0
-  Allows c a x = ServesKnown c.queue.site c.queue.arrivals (AsksOwn a.settings.role) x × MayGive u key.at a x × SendsForwards x
+  Allows c a x = ServesKnown c.queue.site c.queue.arrivals (AsksOwn a.settings.role) x × MayGive u key.at a x × Sends (IsForwardOf u) x
 
   turning : (rows : List Row) (n : ℕ) (c : Core) (a : Actor) (w : Answer) → actor_numbered n c ≡ Some a → IsTold Hears (IsAwake key) (HasActed u key) c n w → At rows c
       → At rows (with_actor c (next a key.at w).1) × Stands c.queue (with_actor c (next a key.at w).1).actors (next a key.at w).1 × Allows (with_actor c (next a key.at w).1) (next a key.at w).1 (next a key.at w).0
@@ -180,7 +211,7 @@ module _ (u : Scenario) (past : List Row) (key : Key) (start : Queue) (fine : Is
       let f : Fits u b = standing u c.actors key n a w e h.numbers (told_acted c n a w e t) in (
         record { chain = h.chain; numbers = stands u c.actors b f h.numbers; actors = all_changed (is_actor b.number) (IsInformed c.queue.site c.queue.arrivals) (λ _. b) (λ _ _. x.informed) c.actors h.actors; polls = h.polls; tasks = h.tasks },
         (x.informed, f, turned_found u c.actors key n a w e),
-        (subst (λ (y : ActorSettings). ServesKnown c.queue.site c.queue.arrivals (AsksOwn y.role) (next a key.at w).0) (sym (next_decides key.at a w).settings) x.serves, turn_gives u c.actors key n a w e h.numbers f (told_awake c n a w e t), next_forwards a key.at w),
+        (subst (λ (y : ActorSettings). ServesKnown c.queue.site c.queue.arrivals (AsksOwn y.role) (next a key.at w).0) (sym (next_decides key.at a w).settings) x.serves, turn_gives u c.actors key n a w e h.numbers f (told_awake c n a w e t), own_forwards u key.at a w (find_all (is_actor n) (Fits u) c.actors a h.numbers.fit e).inside),
       )
 
   polling : (rows : List Row) (a : Actor) (c : Core) (max wait : ℕ) (timeout : Option ℕ) → Stands c.queue c.actors a → Allows c a (acts.Receive max wait timeout) → (w : Row) → In (past ++ rows) w → w.key.at ≡ key.at → At rows c → At rows (with_poll key a c max wait timeout)
@@ -222,8 +253,8 @@ module _ (u : Scenario) (past : List Row) (key : Key) (start : Queue) (fine : Is
         Goes = After;
         after = λ rows e. rows ++ e.rows;
         done = λ rows e g. g.0;
-        joins = λ rows e f g h. (at_rows ((rows ++ e.rows) ++ (f e.core).rows) (rows ++ (e.rows ++ (f e.core).rows)) (f e.core).core (append_assoc rows e.rows (f e.core).rows) h.0, All-append (FitsSender u) e.sent (f e.core).sent g.1 h.1);
-        nothing = λ rows c h. (at_rows rows (rows ++ []) c (sym (append-nil rows)) h, none_sent);
+        joins = λ rows e f g h. (at_rows ((rows ++ e.rows) ++ (f e.core).rows) (rows ++ (e.rows ++ (f e.core).rows)) (f e.core).core (append_assoc rows e.rows (f e.core).rows) h.0, both_sent rows e (f e.core) g.1 h.1);
+        nothing = λ rows c h. (at_rows rows (rows ++ []) c (sym (append-nil rows)) h, none_sent (rows ++ []));
         quiet = quietly;
         Hears = Hears;
         hears_none = λ c. tt;
@@ -234,7 +265,7 @@ module _ (u : Scenario) (past : List Row) (key : Key) (start : Queue) (fine : Is
         asked = λ rows a c max wait timeout s m h. asks_now u (past ++ rows) a.number key.at max wait timeout a.settings s.1.settings m.0 m.1.1;
         waiting = λ rows c h. each_all (λ p. AsksAfter rows p.actor p.timeout) c.polls (All-weaker (IsOpen (past ++ rows)) (λ p. AsksAfter rows p.actor p.timeout) (λ p x. polled_asks u (past ++ rows) key.at p x.1 x.0) c.polls h.polls);
         gives = givingly;
-        changes = λ rows a c text timeout h. extends rows c _ h (change_chain u (past ++ rows) key a c text timeout (stocked rows c h) (here rows c h));
+        changes = λ rows a c text timeout h. extends rows c _ h (change_chain u (past ++ rows) key a c text timeout (stocked rows c h) (here rows c h) (traces rows c h));
         deletes = λ rows a c text h. extends rows c _ h (delete_chain u (past ++ rows) key a c text (stocked rows c h));
         sends = λ rows a c body delay group id m h. extends rows c _ h (sends_chain u (past ++ rows) key a c (record { body = body; delay = delay; group = group; id = id }) m.1.0 (stocked rows c h) c.queue.settings.kind refl);
         draws = λ rows c hosts h. record { chain = h.chain; numbers = h.numbers; actors = h.actors; polls = h.polls; tasks = h.tasks };
@@ -247,8 +278,8 @@ module _ (u : Scenario) (past : List Row) (key : Key) (start : Queue) (fine : Is
         polls = λ rows a c max wait timeout e s m i h.
             let row : Row = receive_row key c a.number answers.Wait in
             let within : In (past ++ (rows ++ row ∷ [])) row = in_right past (rows ++ row ∷ []) row (in_right rows (row ∷ []) row (inl refl)) in
-            (polling (rows ++ row ∷ []) a c max wait timeout s m row within refl (quietly rows c c row i h h).0, none_sent);
-        serves = λ rows a c id r failed o m h. extends rows c _ h (serve_chain u (past ++ rows) key a c id r failed o m.0.0 m.0.1 (all_each CarriesForward (FitsSender u) (λ x y _. y) o m.2));
+            (polling (rows ++ row ∷ []) a c max wait timeout s m row within refl (quietly rows c c row i h h).0, none_sent (rows ++ row ∷ []));
+        serves = λ rows a c id r failed o m h. extends rows c _ h (serve_chain u (past ++ rows) key a c id r failed o m.0.0 m.0.1 (all_each (IsForwardOf u) (λ x. (behind : List Row) → FitsSender u behind x) (λ x y behind. forward_fits u behind x x.load y.0 y.1) o m.2));
       }
 
   expires_by : (rows : List Row) (c : Core) (o : Option Message) → numbered key.number c.queue.records ≡ o → IsFound o → AreOver Expiry key c → At rows c → After rows (handle_expiry key c)
@@ -257,7 +288,7 @@ module _ (u : Scenario) (past : List Row) (key : Key) (start : Queue) (fine : Is
 
   releases_by : (rows : List Row) (c : Core) (o : Option Message) → numbered key.number c.queue.records ≡ o → IsFound o → AreOver Release key c → At rows c → After rows (release_done key c (released c.queue key.number))
   releases_by rows c None f t l h = absurd t
-  releases_by rows c (Some m) f t l h = extends rows c (release_done key c (released c.queue key.number)) h (release_chain u (past ++ rows) key c m (stocked rows c h) f ((l m f).release refl) (here rows c h))
+  releases_by rows c (Some m) f t l h = extends rows c (release_done key c (released c.queue key.number)) h (release_chain u (past ++ rows) key c m (stocked rows c h) f ((l m f).release refl) (here rows c h) (traces rows c h))
 
   abbrev due : DueLaw key chains
   due =
@@ -268,13 +299,13 @@ module _ (u : Scenario) (past : List Row) (key : Key) (start : Queue) (fine : Is
         ends = λ rows c h. record { chain = h.chain; numbers = h.numbers; actors = h.actors; polls = all_without (ends_at key) (IsOpen (past ++ rows)) c.polls h.polls; tasks = h.tasks };
         expires = λ rows c d h. expires_by rows c (numbered key.number c.queue.records) refl d.0 d.1 h;
         releases = λ rows c d h. releases_by rows c (numbered key.number c.queue.records) refl d.0 d.1 h;
-        Comes = λ rows o c. At rows c × ((x : Outbound) → o ≡ Some x → is_actor_of u key.agent ≡ true → IsForward x.load);
+        Comes = λ rows o c. At rows c × ((x : Outbound) → o ≡ Some x → IsArriving u (past ++ rows) key c x);
         absent = λ rows c h. h.0;
-        arrives = λ rows o c h. extends rows c (arrival_done key o.load c (arrived c.queue key.at o.load)) h.0 (arrived_chain u (past ++ rows) key c o.load (h.1 o refl) (stocked rows c h.0));
+        arrives = λ rows o c h. extends rows c (arrival_done key o.load c (arrived c.queue key.at o.load)) h.0 (arrived_chain u (past ++ rows) key c o (h.1 o refl) (stocked rows c h.0));
         samples = λ rows c h. record { chain = h.chain; numbers = h.numbers; actors = h.actors; polls = h.polls; tasks = h.tasks };
         steps = λ rows c t e h.
-            let own : is_actor_of u t.number ≡ false = find_all (is_task key.agent) (λ x. is_actor_of u x.number ≡ false) c.tasks t h.tasks e in
-            let x = extends rows c (step_of u (past ++ rows) key c t) h (step_chain u (past ++ rows) key c t own (stocked rows c h)) in
+            let own : length u.queues + length u.actors ≤ t.number = find_all (is_task key.agent) (λ x. length u.queues + length u.actors ≤ x.number) c.tasks t h.tasks e in
+            let x = extends rows c (step_of u (past ++ rows) key c t) h (step_chain u (past ++ rows) key c t own (stocked rows c h) (traces rows c h)) in
             (record { chain = x.0.chain; numbers = x.0.numbers; actors = x.0.actors; polls = x.0.polls; tasks = stepped_task u (past ++ rows) key c t h.tasks own }, x.1);
       }
 
@@ -282,17 +313,25 @@ module _ (u : Scenario) (past : List Row) (key : Key) (start : Queue) (fine : Is
 pub record IsMoved (u : Scenario) (past : List Row) (key : Key) (c : Core) (rows : List Row) (d : Core) (out : List Outbound) : Type 0 where
   pub chain : Chain u past key c.queue rows d.queue
   pub order : IsInOrder u (past ++ rows) d
-  pub sent : All (FitsSender u) out
+  pub sent : All (FitsSender u (past ++ rows)) out
 
-pub handled_moves : (u : Scenario) (past : List Row) (key : Key) (s : Site) → IsInOrder u past s.core → is_actor_of u s.core.queue.site ≡ false → All (FitsSender u) s.arriving → All (λ p. key.at ≤ p.end) s.core.polls → (is_arrival key.class ≡ false → IsDueThere key key.class s.core) → AreOver key.class key s.core → (key.class ≡ Wake → IsAwake key s.core key.agent) → IsMoved u past key s.core (handled key s).rows (handled key s).site.core (handled key s).sent
-handled_moves u past key s i home fits n d l w =
-    let start : At u past key s.core.queue i.stocked home [] s.core = record { chain = refl; numbers = i.numbers; actors = i.actors; polls = subst (λ r. All (IsOpen u past key s.core.queue i.stocked home r) s.core.polls) (sym (append-nil past)) (λ j e k. (i.polls j e k, n j e k)); tasks = i.tasks } in
-    let came : (x : Outbound) → find (has_key key) s.arriving ≡ Some x → is_actor_of u key.agent ≡ true → IsForward x.load = λ x e t. find_all (has_key key) (FitsSender u) s.arriving x fits e (ap (λ (y : Key). is_actor_of u y.agent) (sym (key_tied key (transfer_key x) (find_picked (has_key key) s.arriving x e))) ∙ t) in
-    let g : After u past key s.core.queue i.stocked home [] (effect_of (handled key s)) = handled_goes key (chains u past key s.core.queue i.stocked home) (due u past key s.core.queue i.stocked home) [] s (λ e. ((d e, l, w), start)) (λ _. (start, came)) in
-    let h : At u past key s.core.queue i.stocked home (handled key s).rows (handled key s).site.core = g.0 in
-    record { chain = h.chain; sent = g.1; order = record { stocked = stocked u past key s.core.queue i.stocked home (handled key s).rows (handled key s).site.core h; numbers = h.numbers; actors = h.actors; polls = All-weaker (IsOpen u past key s.core.queue i.stocked home (past ++ (handled key s).rows)) (IsPolled u (past ++ (handled key s).rows)) (λ p x. x.0) (handled key s).site.core.polls h.polls; tasks = h.tasks } }
+-- transfers on their way to a queue
+abbrev pub AreComing : Scenario → List Row → Site → Type 0
+AreComing u rows s = All (λ o. FitsSender u rows o × (o.to ≡ s.core.queue.site)) s.arriving
+
+pub handled_moves : (u : Scenario) (past : List Row) (key : Key) (s : Site) → IsInOrder u past s.core → slice_get u.queues s.core.queue.site ≡ Some s.core.queue.settings → AreTraced u past s.core.queue → AreComing u past s → All (λ p. key.at ≤ p.end) s.core.polls → (is_arrival key.class ≡ false → IsDueThere key key.class s.core) → AreOver key.class key s.core → (key.class ≡ Wake → IsAwake key s.core key.agent) → IsMoved u past key s.core (handled key s).rows (handled key s).site.core (handled key s).sent
+handled_moves u past key s i home traced fits n d l w =
+    let start : At u past key s.core.queue i.stocked home traced [] s.core = record { chain = refl; numbers = i.numbers; actors = i.actors; polls = subst (λ r. All (IsOpen u past key s.core.queue i.stocked home traced r) s.core.polls) (sym (append-nil past)) (λ j e k. (i.polls j e k, n j e k)); tasks = i.tasks } in
+    let came : (x : Outbound) → find (has_key key) s.arriving ≡ Some x → IsArriving u (past ++ []) key s.core x =
+    λ x e.
+    let f = find_all (has_key key) (λ o. FitsSender u past o × (o.to ≡ s.core.queue.site)) s.arriving x fits e in
+    let tied : key ≡ transfer_key x = key_tied key (transfer_key x) (find_picked (has_key key) s.arriving x e) in
+    record { fits = subst (λ r. FitsSender u r x) (sym (append-nil past)) f.0; to = f.1; sender = ap (λ (y : Key). y.agent) (sym tied); at = ap (λ (y : Key). y.at) (sym tied) } in
+    let g : After u past key s.core.queue i.stocked home traced [] (effect_of (handled key s)) = handled_goes key (chains u past key s.core.queue i.stocked home traced) (due u past key s.core.queue i.stocked home traced) [] s (λ e. ((d e, l, w), start)) (λ _. (start, came)) in
+    let h : At u past key s.core.queue i.stocked home traced (handled key s).rows (handled key s).site.core = g.0 in
+    record { chain = h.chain; sent = g.1; order = record { stocked = stocked u past key s.core.queue i.stocked home traced (handled key s).rows (handled key s).site.core h; numbers = h.numbers; actors = h.actors; polls = All-weaker (IsOpen u past key s.core.queue i.stocked home traced (past ++ (handled key s).rows)) (IsPolled u (past ++ (handled key s).rows)) (λ p x. x.0) (handled key s).site.core.polls h.polls; tasks = h.tasks } }
 
 -- what is on its way after it
-pub arriving_fits : (u : Scenario) (key : Key) (s : Site) → All (FitsSender u) s.arriving → All (FitsSender u) (handled key s).site.arriving
+pub arriving_fits : (P : Outbound → Type 0) (key : Key) (s : Site) → All P s.arriving → All P (handled key s).site.arriving
 unfolding handled
-arriving_fits u key s h = elim (is_arrival key.class) as (λ b. All (FitsSender u) (handled_when b key s).site.arriving) [ true ↦ all_without (has_key key) (FitsSender u) s.arriving h | false ↦ h ]
+arriving_fits P key s h = elim (is_arrival key.class) as (λ b. All P (handled_when b key s).site.arriving) [ true ↦ all_without (has_key key) P s.arriving h | false ↦ h ]

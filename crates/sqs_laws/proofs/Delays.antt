@@ -1,8 +1,7 @@
 -- Delays: a message that was sent is not received before its delay is over, and is released just then.
-use Rattle.std.specs.Prelude.{Bool, List, None, Option, Some, [], false, if◌then◌else◌, is_none, nat_lt, true, ℕ, ◌&&◌, ◌+◌, ◌++◌, ◌<◌, ◌==◌, ◌∷◌, ◌≡◌, ◌≤◌, ◌⊎◌, ◌||◌}
+use Rattle.std.specs.Prelude.{Bool, List, None, Option, Some, [], false, if◌then◌else◌, is_none, nat_lt, true, ℕ, ◌&&◌, ◌+◌, ◌++◌, ◌<◌, ◌==◌, ◌∷◌, ◌≡◌, ◌≤◌, ◌⊎◌, ◌||◌, nat_le, length}
 use Rattle.std.proofs.Common.{ap, arith, inl, inr, refl, subst, sym, ◌∙◌, is_none, nat_lt}
 use Rattle.std.proofs.Math.Bool.{and-false, or-false, or-true}
-use Rattle.std.proofs.lemmas.Bool.{or_parts}
 use Rattle.std.proofs.lemmas.Bool.Decides.{nat_tests}
 use Rattle.sim_clock.specs.declared.key.Key.{Key}
 use Rattle.sqs_message.specs.declared.ids.MessageId.{MessageId}
@@ -10,8 +9,6 @@ use Rattle.sqs_message.specs.declared.message.Message.{Message}
 use Rattle.sqs_message.specs.declared.message.Place.{Place}
 use Rattle.sqs_message.specs.declared.message.Place.TheVariants as places
 use Rattle.sqs_message.specs.declared.row.Row.{Row}
-use Rattle.sqs_redrive.specs.declared.settings.QueueSettings.{QueueSettings}
-use Rattle.sqs_model.specs.Accounts.{is_deleted, is_expired}
 use Rattle.sqs_model.specs.Progress.{IsSoundScenario}
 use Rattle.sqs_model.specs.Queue.{Queue, id_of, is_delayed, is_in_flight, is_visible, numbered}
 use Rattle.sqs_model.specs.Return.{visible_again}
@@ -19,7 +16,7 @@ use Rattle.sqs_model.specs.Run.{IsRunOf, Run}
 use Rattle.sqs_model.specs.Scenario.{Scenario}
 use Rattle.sqs_model.proofs.Branches.{by_cases}
 use Rattle.sqs_model.proofs.Members.{In, in_left, in_right, of_all}
-use Rattle.sqs_laws.specs.Laws.{is_actor_of, was_sent, CameWith, IsDelayed, Delays}
+use Rattle.sqs_laws.specs.Laws.{is_actor_of, delay_brought, CameWith, IsDelayed, Delays}
 use Rattle.sqs_laws.specs.Sends.{delay_given, GivesAs}
 use Rattle.sqs_laws.specs.Words.{came_by, is_release, is_send, names, was_released, flying, EachRow}
 use Rattle.sqs_laws.specs.Words as words
@@ -27,12 +24,13 @@ use Rattle.sqs_laws.proofs.End as end
 use Rattle.sqs_laws.proofs.Flights.{flies_of, flights}
 use Rattle.sqs_laws.proofs.Lasts.{IsLast, last_of}
 use Rattle.sqs_laws.proofs.Moments.{timely_at}
-use Rattle.sqs_laws.proofs.Moves.{Comes, Does, Ends, IsStocked, Move, Names, Releases, Tells, Waits, changes, comes, ends, receives, redrives, releases, stays, Move, Names}
+use Rattle.sqs_laws.proofs.Moves.{Comes, Does, Ends, IsStocked, Move, Names, Releases, Tells, Waits, changes, comes, ends, receives, redrives, releases, stays, Move, Names, IsBrought, FitsLoad, IsMadeBy}
 use Rattle.sqs_laws.proofs.Order.{rows_in_time}
-use Rattle.sqs_laws.proofs.Repeats.{came_as}
-use Rattle.sqs_laws.proofs.Said.{any_push, names_same, none_leaves}
+use Rattle.sqs_laws.proofs.Said.{any_push, names_same, none_leaves, last_as}
 use Rattle.sqs_laws.proofs.Slots.{IsStep, MessageLaw, Slot, by_messages, gone, of_there, of_unborn, there, unborn}
 use Rattle.sqs_laws.proofs.Worlds.{IsNow, RowLaw, both, every_row_by}
+use Rattle.sqs_redrive.specs.declared.transfers.Load.{Load}
+use Rattle.sqs_redrive.specs.declared.transfers.Load.TheVariants.{Forward, Move as Moves, Redrive}
 
 -- what waits is delayed until the end of its delay, and else it is visible
 pub waits_delayed : (at delay : ℕ) (m : Message) → Waits at delay m → is_delayed m ≡ true → (0 < delay) × (m.release ≡ Some (at + delay))
@@ -61,12 +59,24 @@ flying_ready m = (readies m m.place refl).1
 released_as : (m : MessageId) (rows : List Row) (r : Row) (b : Bool) → (is_release r.kind && names m r) ≡ b → was_released m (rows ++ r ∷ []) ≡ (was_released m rows || b)
 released_as m rows r b e = any_push (λ x. is_release x.kind && names m x) rows r ∙ ap (λ y. was_released m rows || y) e
 
+-- what a transfer brings waits as it should
+brought_waits : (s : Scenario) (rows : List Row) (q : Queue) (r : Row) (m : Message) (b : IsBrought s rows q r m) (load : Load) → FitsLoad s rows b.transfer load → IsMadeBy q r.key.at load m → Waits r.key.at (delay_brought s q.settings r) m
+brought_waits s rows q r m b (Redrive id group origin body enqueued) f e =
+    let early : nat_le (length s.queues) r.agent ≡ false = grind (arith, nat_tests, f.sender, b.sender) in
+    let none : delay_brought s q.settings r ≡ 0 = ap (λ x. if x && nat_lt r.agent (length s.queues + length s.actors) then q.settings.delay else 0) early in
+    subst (λ n. Waits r.key.at n m) (sym none) (subst (Waits r.key.at 0) (sym e) (record { place = refl; release = refl }))
+brought_waits s rows q r m b (Moves id group origin body) f e =
+    let late : nat_lt r.agent (length s.queues + length s.actors) ≡ false = grind (arith, nat_tests, f.0, b.sender) in
+    let none : delay_brought s q.settings r ≡ 0 = ap (λ x. if nat_le (length s.queues) r.agent && x then q.settings.delay else 0) late ∙ ap (λ x. if x then q.settings.delay else 0) (and-false (nat_le (length s.queues) r.agent)) in
+    subst (λ n. Waits r.key.at n m) (sym none) (subst (Waits r.key.at 0) (sym e) (record { place = refl; release = refl }))
+brought_waits s rows q r m b (Forward id group body) f e = subst (λ n. Waits r.key.at n m) (sym (ap (λ x. if x then q.settings.delay else 0) (ap (is_actor_of s) (sym b.sender) ∙ f))) e.1
+
 module _ (s : Scenario) where
   -- what the rows so far say of a message: while it is delayed it is not released, and else it was, or had no delay
   pub record Held (rows : List Row) (i : MessageId) (m : Message) : Type 0 where
     pub visible : is_visible m ≡ true → m.release ≡ None
     pub delayed : is_delayed m ≡ true → (by : Row) (delay : ℕ) → CameWith s rows i by delay → (was_released i rows ≡ false) × (0 < delay) × (m.release ≡ Some (by.key.at + delay))
-    pub over : is_delayed m ≡ false → (by : Row) (delay : ℕ) → CameWith s rows i by delay → was_sent s by ≡ true → (0 < delay → was_released i rows ≡ true) × ((x : Row) × In rows x × (by.key.at + delay ≤ x.key.at))
+    pub over : is_delayed m ≡ false → (by : Row) (delay : ℕ) → CameWith s rows i by delay → (0 < delay → was_released i rows ≡ true) × ((x : Row) × In rows x × (by.key.at + delay ≤ x.key.at))
 
   abbrev pub IsSaid : List Row → MessageId → Slot → Type 0
   IsSaid rows i (there m) = Held rows i m
@@ -82,7 +92,7 @@ module _ (s : Scenario) where
       record {
         visible = h.visible;
         delayed = λ d by delay c. let x = h.delayed d by delay (came_before rows r i by delay e c) in (f ∙ x.0, x.1, x.2);
-        over = λ d by delay c t. let x = h.over d by delay (came_before rows r i by delay e c) t in (λ l. f ∙ x.0 l, (x.1.0, in_left rows (r ∷ []) x.1.0 x.1.1, x.1.2));
+        over = λ d by delay c. let x = h.over d by delay (came_before rows r i by delay e c) in (λ l. f ∙ x.0 l, (x.1.0, in_left rows (r ∷ []) x.1.0 x.1.1, x.1.2));
       }
 
   pub kept_slot : (rows : List Row) (r : Row) (i : MessageId) (x : Slot) → came_by i (rows ++ r ∷ []) ≡ came_by i rows → was_released i (rows ++ r ∷ []) ≡ was_released i rows → IsSaid rows i x → IsSaid (rows ++ r ∷ []) i x
@@ -91,7 +101,7 @@ module _ (s : Scenario) where
   kept_slot rows r i unborn e f h = (f ∙ h.0, e ∙ h.1)
 
   pub same_came : (rows : List Row) (r : Row) (i : MessageId) → (words.comes r && names i r) ≡ false → came_by i (rows ++ r ∷ []) ≡ came_by i rows
-  same_came rows r i e = came_as i rows r false e
+  same_came rows r i e = last_as words.comes i rows r false e
 
   pub same_released : (rows : List Row) (r : Row) (i : MessageId) → (is_release r.kind && names i r) ≡ false → was_released i (rows ++ r ∷ []) ≡ was_released i rows
   same_released rows r i e = released_as i rows r false e ∙ or-false (was_released i rows)
@@ -111,7 +121,7 @@ module _ (s : Scenario) where
       record {
         visible = λ _. refl;
         delayed = λ t. cc;
-        over = λ _ by delay c t.
+        over = λ _ by delay c.
             let old : CameWith s rows i by delay = came_before rows r i by delay (same_came rows r i (rw d.tells.comes_so refl)) c in (
               λ _. once,
               by_cases (is_delayed d.one)
@@ -121,38 +131,28 @@ module _ (s : Scenario) where
                   let now : r.key.at ≡ key.at = ap (λ (y : Key). y.at) a.at_key in
                   let is : by.key.at + delay ≡ key.at = cc in
                   (r, in_right rows (r ∷ []) r (inl refl), omega (arith, is, now)))
-                  (λ e. let x = was.over e by delay old t in (x.1.0, in_left rows (r ∷ []) x.1.0 x.1.1, x.1.2)),
+                  (λ e. let x = was.over e by delay old in (x.1.0, in_left rows (r ∷ []) x.1.0 x.1.1, x.1.2)),
             );
       }
 
   -- one that comes
   module _ (sound : IsSoundScenario s) (rows : List Row) (key : Key) (q : Queue) (r : Row) (p : Queue) (a : IsStep s rows key q r p) (d : Comes key q r p) (found : numbered q.arrivals p.records ≡ Some d.one) where
-    own_waits : (by : Row) (delay : ℕ) → CameWith s (rows ++ r ∷ []) (id_of q q.arrivals) by delay → (by ≡ r) × (is_delayed d.one ≡ true ⊎ (was_sent s by ≡ true) → Waits r.key.at delay d.one)
+    own_waits : (by : Row) (delay : ℕ) → CameWith s (rows ++ r ∷ []) (id_of q q.arrivals) by delay → (by ≡ r) × Waits r.key.at delay d.one
     own_waits by delay c =
         let i : MessageId = id_of q q.arrivals in
-        let now : came_by i (rows ++ r ∷ []) ≡ Some r = came_as i rows r true (rw (d.tells.comes_so, names_same i r d.message) refl) in
+        let now : came_by i (rows ++ r ∷ []) ≡ Some r = last_as words.comes i rows r true (rw (d.tells.comes_so, names_same i r d.message) refl) in
         let is : by ≡ r = cc in
         let queue : c.queue ≡ q.settings = let same : Some c.queue ≡ Some q.settings = sym c.settings ∙ a.settings in cc in (
           is,
-          λ e.
-              by_cases (is_send r.kind)
+          by_cases (is_send r.kind)
               (λ t.
               let x = c.sent (ap (λ (y : Row). is_send y.kind) is ∙ t) in
               let given : Waits r.key.at (delay_given q.settings x.0) d.one = (a.behind.given (rw (t, d.tells.comes_so) refl) d.one found sound.actors x.0 (subst (λ (y : Row). GivesAs s y.agent y.key.at x.0) is x.1)).delay in
               subst (λ n. Waits r.key.at n d.one) (ap (λ y. delay_given y x.0) (sym queue) ∙ sym x.2) given)
               (λ t.
-              let mine : delay ≡ q.settings.delay = c.arrived (ap (λ (y : Row). is_send y.kind) is ∙ t) ∙ ap (λ (y : QueueSettings). y.delay) queue in
-              let waits : Waits r.key.at d.delay d.one = subst (λ (y : Key). Waits y.at d.delay d.one) (sym a.at_key) d.waits in
-              elim e as (λ _. Waits r.key.at delay d.one) [
-                | inl held ↦
-                    elim (d.arrives t) as (λ _. Waits r.key.at delay d.one) [
-                      | inl z ↦ absurd (let some : 0 < d.delay = (waits_delayed r.key.at d.delay d.one waits held).0 in omega (arith, some, z))
-                      | inr z ↦ subst (λ n. Waits r.key.at n d.one) (z ∙ sym mine) waits
-                    ]
-                | inr y ↦
-                    let actor : is_actor_of s r.agent ≡ true = sym (ap (λ b. b || is_actor_of s r.agent) t) ∙ ap (was_sent s) (sym is) ∙ y in
-                    subst (λ n. Waits r.key.at n d.one) (sym mine) (a.behind.arrives d.tells.comes_so t actor d.one found)
-              ]),
+              let b : IsBrought s rows q r d.one = a.behind.brought d.tells.comes_so t d.one found in
+              let mine : delay ≡ delay_brought s q.settings r = c.arrived (ap (λ (y : Row). is_send y.kind) is ∙ t) ∙ ap (λ y. delay_brought s y by) queue ∙ ap (delay_brought s q.settings) is in
+              subst (λ n. Waits r.key.at n d.one) (sym mine) (brought_waits s rows q r d.one b b.transfer.load b.fits b.made)),
         )
 
     pub own_held : was_released (id_of q q.arrivals) rows ≡ false → Held (rows ++ r ∷ []) (id_of q q.arrivals) d.one
@@ -162,11 +162,11 @@ module _ (s : Scenario) where
           visible = λ t. (waits_visible key.at d.delay d.one d.waits (visible_ready d.one t)).1;
           delayed = λ t by delay c.
               let x = own_waits by delay c in
-              let w = waits_delayed r.key.at delay d.one (x.1 (inl t)) t in
+              let w = waits_delayed r.key.at delay d.one x.1 t in
               (none, w.0, w.1 ∙ ap (λ (y : Row). Some (y.key.at + delay)) (sym x.0));
-          over = λ t by delay c u.
+          over = λ t by delay c.
               let x = own_waits by delay c in
-              let zero : delay ≡ 0 = (waits_visible r.key.at delay d.one (x.1 (inr u)) t).0 in
+              let zero : delay ≡ 0 = (waits_visible r.key.at delay d.one x.1 t).0 in
               let at : by.key.at ≡ r.key.at = ap (λ (y : Row). y.key.at) x.0 in
               (λ l. absurd (omega (arith, l, zero)), (r, in_right rows (r ∷ []) r (inl refl), omega (arith, zero, at)));
         }
@@ -177,12 +177,12 @@ module _ (s : Scenario) where
         Said = λ q rows i x. IsSaid rows i x;
         opens = λ q i. (refl, refl);
         other = λ q rows r i x e h. kept_slot rows r i x (same_came rows r i (ap (λ b. words.comes r && b) e ∙ and-false (words.comes r))) (same_released rows r i (ap (λ b. is_release r.kind && b) e ∙ and-false (is_release r.kind))) h;
-        stays = λ q rows r i x t e h. still rows r i x t.comes_so t.released_so h;
+        stays = λ rows key q r p a t n e x y h. still rows r (id_of q n) x t.comes_so t.released_so h;
         comes = λ rows key q r p a d e h. own_held sound rows key q r p a d e h.0;
         receives = λ rows key q r p a d e h. flies (rows ++ r ∷ []) (id_of q d.number) d.one _ (visible_ready d.one d.rested) refl refl (still rows r (id_of q d.number) (there d.one) d.tells.comes_so d.tells.released_so h);
         changes = λ rows key q r p a d h. flies (rows ++ r ∷ []) (id_of q d.number) d.one _ (flying_ready d.one d.flies) refl refl (still rows r (id_of q d.number) (there d.one) d.tells.comes_so d.tells.released_so h);
         releases = λ rows key q r p a d h. comes_back rows key q r p a d h;
-        leaves = λ q rows r i one t e h. tt;
+        leaves = λ rows key q r p a t one n d h. tt;
       }
 
 module _ (s : Scenario) (sound : IsSoundScenario s) where
@@ -191,7 +191,7 @@ module _ (s : Scenario) (sound : IsSoundScenario s) where
 
   -- what the law says of a row: the delay of the message that it names was over by a row before it, or is over now
   record IsAsTold (before : List Row) (r : Row) (m : MessageId) (by : Row) (delay : ℕ) : Type 0 where
-    pub over : words.touches r ≡ true → was_sent s by ≡ true → ((x : Row) × In before x × (by.key.at + delay ≤ x.key.at)) ⊎ (by.key.at + delay ≤ r.key.at)
+    pub over : words.touches r ≡ true → ((x : Row) × In before x × (by.key.at + delay ≤ x.key.at)) ⊎ (by.key.at + delay ≤ r.key.at)
     pub ends : is_release r.kind ≡ true → flying m before ≡ false → (was_released m before ≡ false) × (0 < delay) × (r.key.at ≡ by.key.at + delay)
 
   -- a delay that goes on ends when its message is released
@@ -206,9 +206,9 @@ module _ (s : Scenario) (sound : IsSoundScenario s) where
       release_by (Some m) e f =
           let held : Held s rows (id_of q n) m = of_there s (delay_law s sound) rows q h.0 n m e in
           by_cases (is_delayed m) (λ t. (m, e, (held.delayed t by delay d.came).2))
-          (λ t. let was : was_released (id_of q n) rows ≡ true = (held.over t by delay d.came d.sent).0 d.some in let not : was_released (id_of q n) rows ≡ false = d.waits in cc)
+          (λ t. let was : was_released (id_of q n) rows ≡ true = (held.over t by delay d.came).0 d.some in let not : was_released (id_of q n) rows ≡ false = d.waits in cc)
 
-  module _ (rows : List Row) (key : Key) (q : Queue) (r : Row) (p : Queue) (now : IsNow s key q) (d : Move key q r p) (k : IsStocked q) (h : told.Holds rows q) where
+  module _ (rows : List Row) (key : Key) (q : Queue) (r : Row) (p : Queue) (now : IsNow s rows key q) (d : Move key q r p) (k : IsStocked q) (h : told.Holds rows q) where
     at_now : r.key.at ≡ key.at
     at_now = ap (λ (y : Key). y.at) d.at_key
 
@@ -219,18 +219,18 @@ module _ (s : Scenario) (sound : IsSoundScenario s) where
     abbrev IsOver : MessageId → Row → ℕ → Type 0
     IsOver m by delay = ((x : Row) × In rows x × (by.key.at + delay ≤ x.key.at)) ⊎ (by.key.at + delay ≤ r.key.at)
 
-    touched : (one : Message) (n : ℕ) → numbered n q.records ≡ Some one → Ready one → (by : Row) (delay : ℕ) → CameWith s rows (id_of q n) by delay → was_sent s by ≡ true → IsOver (id_of q n) by delay
-    touched one n found (inl ready) by delay c t = inl ((of_there s (delay_law s sound) rows q h.0 n one found).over ready by delay c t).1
-    touched one n found (inr due) by delay c t =
+    touched : (one : Message) (n : ℕ) → numbered n q.records ≡ Some one → Ready one → (by : Row) (delay : ℕ) → CameWith s rows (id_of q n) by delay → IsOver (id_of q n) by delay
+    touched one n found (inl ready) by delay c = inl ((of_there s (delay_law s sound) rows q h.0 n one found).over ready by delay c).1
+    touched one n found (inr due) by delay c =
         by_cases (is_delayed one)
         (λ e. let x = (of_there s (delay_law s sound) rows q h.0 n one found).delayed e by delay c in let is : by.key.at + delay ≡ key.at = (let both : Some (by.key.at + delay) ≡ Some key.at = sym x.2 ∙ due in cc) in inr (omega (arith, is, at_now)))
-        (λ e. inl ((of_there s (delay_law s sound) rows q h.0 n one found).over e by delay c t).1)
+        (λ e. inl ((of_there s (delay_law s sound) rows q h.0 n one found).over e by delay c).1)
 
     abbrev IsTold : MessageId → Type 0
     IsTold m = (by : Row) (delay : ℕ) → CameWith s rows m by delay → IsAsTold rows r m by delay
 
     named : (one : Message) (n : ℕ) → Names key q r p one n → (words.touches r ≡ true → Ready one) → is_release r.kind ≡ false → (m : MessageId) → r.message ≡ Some m → IsTold m
-    named one n x ready kept_back m e = let is : id_of q n ≡ m = cc in subst IsTold is (λ by delay y. record { over = λ t u. touched one n x.there (ready t) by delay y u; ends = λ t. cc })
+    named one n x ready kept_back m e = let is : id_of q n ≡ m = cc in subst IsTold is (λ by delay y. record { over = λ t. touched one n x.there (ready t) by delay y; ends = λ t. cc })
 
     quiet : (c : Bool) → Tells r c false false false false → (m : MessageId) → r.message ≡ Some m → IsTold m
     quiet c t m e by delay y =
@@ -248,7 +248,7 @@ module _ (s : Scenario) (sound : IsSoundScenario s) where
         (λ e. let none : x.one.release ≡ None = held.visible ((readies x.one x.one.place refl).2 e rests) in let due : x.one.release ≡ Some key.at = x.due in cc)
 
     back_by : Releases key q r p → (m : MessageId) → r.message ≡ Some m → IsTold m
-    back_by x m e = let is : id_of q x.number ≡ m = cc in subst IsTold is (λ by delay y. record { over = λ t u. touched x.one x.number x.names.there (inr x.due) by delay y u; ends = λ t f. delay_ends x (subst (λ i. flying i rows ≡ false) refl f) by delay y })
+    back_by x m e = let is : id_of q x.number ≡ m = cc in subst IsTold is (λ by delay y. record { over = λ t. touched x.one x.number x.names.there (inr x.due) by delay y; ends = λ t f. delay_ends x (subst (λ i. flying i rows ≡ false) refl f) by delay y })
 
     moved : (x : Ends key q r p) → words.touches r ≡ true → words.is_move r.kind ≡ true
     moved x t = sym (ap (λ b. b || words.is_move r.kind) (let none : (words.received r || words.changed r || is_release r.kind || words.is_redrive r.kind) ≡ false = rw (x.tells.received_so, x.tells.changed_so, x.tells.released_so, x.kind) refl in none)) ∙ t
@@ -275,8 +275,8 @@ module _ (s : Scenario) (sound : IsSoundScenario s) where
       let each : EachRow x.rows (λ before r. (m : MessageId) → r.message ≡ Some m → (by : Row) (delay : ℕ) → CameWith s before m by delay → IsAsTold before r m by delay) =
       every_row_by s told _ (λ rows key q r p now d g k h j. names_by rows key q r p now d k h d.does) x is in
       record {
-        over = λ before r after e m i t by delay c u.
-            elim ((each before r after e m i by delay c).over t u) as (λ _. by.key.at + delay ≤ r.key.at) [
+        over = λ before r after e m i t by delay c.
+            elim ((each before r after e m i by delay c).over t) as (λ _. by.key.at + delay ≤ r.key.at) [
               | inl y ↦ let no_later : y.0.key.at ≤ r.key.at = of_all (λ (z : Row). z.key.at ≤ r.key.at) before y.0 ((rows_in_time s sound x is).order before r after e) y.1 in omega (arith, y.2, no_later)
               | inr l ↦ l
             ];

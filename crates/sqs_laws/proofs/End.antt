@@ -42,12 +42,12 @@ left_law s =
       Said = λ q rows i x. has_left i rows ≡ has_gone x;
       opens = λ q i. refl;
       other = λ q rows r i x e h. left_still i rows r (ap (λ b. leaves r && b) e ∙ and-false (leaves r)) ∙ h;
-      stays = λ q rows r i x t e h. left_still i rows r (rw t.leaves_so refl) ∙ h;
+      stays = λ rows key q r p a t n e x y h. left_still (id_of q n) rows r (rw t.leaves_so refl) ∙ h;
       comes = λ rows key q r p a d e h. left_still (id_of q q.arrivals) rows r (rw d.tells.leaves_so refl) ∙ h;
       receives = λ rows key q r p a d e h. left_still (id_of q d.number) rows r (rw d.tells.leaves_so refl) ∙ h;
       changes = λ rows key q r p a d h. left_still (id_of q d.number) rows r (rw d.tells.leaves_so refl) ∙ h;
       releases = λ rows key q r p a d h. left_still (id_of q d.number) rows r (rw d.tells.leaves_so refl) ∙ h;
-      leaves = λ q rows r i one t e h. left_now i rows r t.leaves_so e;
+      leaves = λ rows key q r p a t one n d h. left_now (id_of q n) rows r t.leaves_so d.message;
     }
 
 abbrev pub IsCounted : List Row → Queue → Type 0

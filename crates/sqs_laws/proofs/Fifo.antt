@@ -14,21 +14,20 @@ use Rattle.sqs_model.specs.Queue.{Queue, id_of, numbered, same_group}
 use Rattle.sqs_model.specs.Run.{IsRunOf, Run}
 use Rattle.sqs_model.specs.Scenario.{Scenario}
 use Rattle.sqs_model.specs.Texts.{same_text_decides}
-use Rattle.sqs_laws.specs.Sends.{Given, GivesAs, IsByCall, IsSender, WasGiven}
-use Rattle.sqs_laws.specs.Laws.{FifoOrder, Sends, fifo_at, is_fifo}
-use Rattle.sqs_laws.specs.Words.{EachRow, flight, flying, has_left}
+use Rattle.sqs_laws.specs.Sends.{Given, GivesAs, IsByCall, IsSender}
+use Rattle.sqs_laws.specs.Laws.{FifoOrder, Sends, fifo_at, is_fifo, HasGroup}
+use Rattle.sqs_laws.specs.Words.{EachRow, flight, flying, has_left, accepted_by}
 use Rattle.sqs_laws.specs.Words as words
 use Rattle.sqs_laws.proofs.Calls.{found_old}
 use Rattle.sqs_laws.proofs.End as end
 use Rattle.sqs_laws.proofs.Flights.{flies_of, flights, rests_of}
-use Rattle.sqs_laws.proofs.Moves.{Does, IsNext, IsBehind, IsStocked, Move, Receives, changes, comes, ends, receives, redrives, releases, stays, received_by}
-use Rattle.sqs_laws.proofs.Sends.{send_law, sends}
-use Rattle.sqs_laws.proofs.Slots.{of_there}
-use Rattle.sqs_laws.proofs.Worlds.{RowLaw, both, every_row_by}
+use Rattle.sqs_laws.proofs.Moves.{IsNext, IsBehind, IsStocked, Move, Receives, as_told, IsTraced}
+use Rattle.sqs_laws.proofs.Worlds.{RowLaw, both, every_row_by, traces}
+use Rattle.sqs_laws.proofs.Traces.{traced_of}
 
 module _ (s : Scenario) (sound : IsSoundScenario s) where
   abbrev told : RowLaw s
-  told = both s (sends s) (both s (end.the_end s) (flights s))
+  told = both s (traces s) (both s (end.the_end s) (flights s))
 
   -- two messages of a group, of which one is received: what the law says of the other one
   record IsAsTold (before : List Row) (r : Row) (m n : MessageId) : Type 0 where
@@ -36,21 +35,25 @@ module _ (s : Scenario) (sound : IsSoundScenario s) where
     pub later : m.number < n.number → flying n before ≡ false
 
   abbrev Tells : List Row → Row → Type 0
-  Tells before r = (m : MessageId) → r.message ≡ Some m → (words.received r && fifo_at s r) ≡ true → (n : MessageId) (g : List ℕ) → n.site ≡ r.queue → WasGiven s before m g → WasGiven s before n g → IsAsTold before r m n
+  Tells before r = (m : MessageId) → r.message ≡ Some m → (words.received r && fifo_at s r) ≡ true → (n : MessageId) (g : List ℕ) → n.site ≡ r.queue → HasGroup s before m g → HasGroup s before n g → IsAsTold before r m n
 
   module _ (rows : List Row) (key : Key) (q : Queue) (r : Row) (p : Queue) (d : Move key q r p) (o : IsBehind s rows q r p) (k : IsStocked q) (h : told.Holds rows q) where
     fifo : fifo_at s r ≡ true → is_fifo q.settings.kind ≡ true
     fifo e =
-        let own : slice_get s.queues r.queue ≡ Some q.settings = ap (λ n. slice_get s.queues n) d.at_site ∙ h.0.settings in
+        let own : slice_get s.queues r.queue ≡ Some q.settings = ap (λ n. slice_get s.queues n) d.at_site ∙ h.0.0 in
         sym (ap (λ x. elim x as (λ _. Bool) [ None ↦ false | Some y ↦ is_fifo y.kind ]) own) ∙ e
 
-    group_is : is_fifo q.settings.kind ≡ true → (i : ℕ) (m : Message) (g : List ℕ) → numbered i q.records ≡ Some m → WasGiven s rows (id_of q i) g → m.group ≡ Some g
-    group_is f i m g e (by, t, x, y, z) = (of_there s (send_law s) rows q h.0 i m e by t).group f sound.actors x y ∙ z
+    group_is : is_fifo q.settings.kind ≡ true → (i : ℕ) (m : Message) (g : List ℕ) → numbered i q.records ≡ Some m → HasGroup s rows (id_of q i) g → m.group ≡ Some g
+    group_is f i m g e x =
+        let t : IsTraced s rows (id_of q i) m = traced_of s rows q h.0.1 i m e in
+        let origin : x.origin ≡ m.origin = let both : Some x.origin ≡ Some m.origin = sym x.told ∙ t.origin in cc in
+        let by : t.group.0 ≡ x.by = let both : Some t.group.0 ≡ Some x.by = sym t.group.1 ∙ ap (λ o. accepted_by o rows) (sym origin) ∙ x.accepted in cc in
+        t.group.2 (ap (λ (y : Row). words.is_send y.kind && fifo_at s y) by ∙ x.sent) sound.actors x.given.0 (subst (λ (y : Row). GivesAs s y.agent y.key.at x.given.0) (sym by) x.given.1) ∙ x.given.2
 
     alike : (a b : Message) (g : List ℕ) → a.group ≡ Some g → b.group ≡ Some g → same_group a b ≡ true
     alike a b g x y = (same_text_decides a.group b.group).1 (x ∙ sym y)
 
-    other : (x : Receives key q r p) (i : ℕ) (g : List ℕ) → is_fifo q.settings.kind ≡ true → WasGiven s rows (id_of q x.number) g → WasGiven s rows (id_of q i) g → (z : Option Message) → numbered i q.records ≡ z → IsAsTold rows r (id_of q x.number) (id_of q i)
+    other : (x : Receives key q r p) (i : ℕ) (g : List ℕ) → is_fifo q.settings.kind ≡ true → HasGroup s rows (id_of q x.number) g → HasGroup s rows (id_of q i) g → (z : Option Message) → numbered i q.records ≡ z → IsAsTold rows r (id_of q x.number) (id_of q i)
     other x i g f a b None e =
         record {
           earlier = λ l t.
@@ -73,12 +76,12 @@ module _ (s : Scenario) (sound : IsSoundScenario s) where
     told_by : Tells rows r
     told_by m e t n g w a b =
         let both = and_parts (words.received r) (fifo_at s r) t in
-        let x = received_by key q r p d.does both.0 in
+        let x = (as_told key q r p d.does).receives both.0 in
         let is : id_of q x.number ≡ m = let named : Some (id_of q x.number) ≡ Some m = sym x.names.message ∙ e in cc in
         let that : id_of q n.number ≡ n = of_site n w in
         subst (IsAsTold rows r m) that
         (subst (λ y. IsAsTold rows r y (id_of q n.number)) is
-        (other x n.number g (fifo both.1) (subst (λ y. WasGiven s rows y g) (sym is) a) (subst (λ y. WasGiven s rows y g) (sym that) b) (numbered n.number q.records) refl))
+        (other x n.number g (fifo both.1) (subst (λ y. HasGroup s rows y g) (sym is) a) (subst (λ y. HasGroup s rows y g) (sym that) b) (numbered n.number q.records) refl))
 
   -- the law
   pub groups_are_in_order : (x : Run) → IsRunOf s x → FifoOrder s x.rows
@@ -91,4 +94,4 @@ module _ (s : Scenario) (sound : IsSoundScenario s) where
 
 -- each send is what its actor gives
 pub sends_are_given : (s : Scenario) (x : Run) → IsRunOf s x → Sends s x.rows
-sends_are_given s x is = record { given = every_row_by s (sends s) (λ before r. (words.is_send r.kind && words.comes r) ≡ true → (a : ActorSettings) → slice_get s.actors (r.agent - length s.queues) ≡ Some a → IsSender a.role → (y : Given) × GivesAs s r.agent r.key.at y × (r.detail ≡ details.Digest (md5 y.body))) (λ rows key q r p now d g k h j. g.sends) x is }
+sends_are_given s x is = record { given = every_row_by s (traces s) (λ before r. (words.is_send r.kind && words.comes r) ≡ true → (a : ActorSettings) → slice_get s.actors (r.agent - length s.queues) ≡ Some a → IsSender a.role → (y : Given) × GivesAs s r.agent r.key.at y × (r.detail ≡ details.Digest (md5 y.body))) (λ rows key q r p now d g k h j. g.sends) x is }

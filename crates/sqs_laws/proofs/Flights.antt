@@ -44,12 +44,12 @@ flight_law s =
       Said = λ q rows i x. flying i rows ≡ flies x;
       opens = λ q i. refl;
       other = λ q rows r i x e h. ap is_some (flight_stays i rows r e) ∙ h;
-      stays = λ q rows r i x t e h. ap is_some (flight_quiet rows r i false t) ∙ h;
+      stays = λ rows key q r p a t n e x y h. ap is_some (flight_quiet rows r (id_of q n) false t) ∙ h;
       comes = λ rows key q r p a d e h. ap is_some (flight_quiet rows r (id_of q q.arrivals) true d.tells) ∙ h ∙ sym (waits_rest key.at d.delay d.one d.waits);
       receives = λ rows key q r p a d e h. ap is_some (flight_now rows r (id_of q d.number) d.names.message (rw d.tells.received_so refl));
       changes = λ rows key q r p a d h. ap is_some (flight_now rows r (id_of q d.number) d.names.message (rw (d.tells.received_so, d.tells.changed_so) refl));
       releases = λ rows key q r p a d h. ap is_some (flight_over rows r (id_of q d.number) d.names.message (rw (d.tells.received_so, d.tells.changed_so) refl) (rw d.tells.released_so refl));
-      leaves = λ q rows r i one t e h. ap is_some (flight_over rows r i e (rw (t.received_so, t.changed_so) refl) (rw (t.released_so, t.leaves_so) refl));
+      leaves = λ rows key q r p a t one n d h. ap is_some (flight_over rows r (id_of q n) d.message (rw (t.received_so, t.changed_so) refl) (rw (t.released_so, t.leaves_so) refl));
     }
 
 -- the law that the rows say which messages are in flight

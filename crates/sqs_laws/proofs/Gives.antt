@@ -1,9 +1,8 @@
 -- An actor gives to what it sends the group that the settings tell.
-use Rattle.std.specs.Prelude.{All, List, Option, Some, [], drop, find, length, nat_lt, slice_get, suc, zero, ℕ, ◌+◌, ◌-◌, ◌<◌, ◌==◌, ◌∷◌, ◌≡◌, ◌≤◌}
+use Rattle.std.specs.Prelude.{All, List, Option, Some, [], drop, find, length, nat_lt, slice_get, suc, zero, ℕ, ◌+◌, ◌-◌, ◌<◌, ◌==◌, ◌∷◌, ◌≡◌, ◌≤◌, true, nat_le}
 use Rattle.std.proofs.Common.{ap, arith, inl, inr, refl, subst, sym, ◌∙◌}
 use Rattle.std.proofs.lemmas.Bool.{cases_order, eq-eqb, eqb-true}
-use Rattle.std.proofs.lemmas.List.Elements.{All-get_or}
-use Rattle.std.proofs.lemmas.Option.{get_or_from_slice_get, slice_get_within}
+use Rattle.std.proofs.lemmas.Option.{slice_get_within}
 use Rattle.sim_clock.specs.declared.key.Class.TheVariants.{Wake}
 use Rattle.sim_clock.specs.declared.key.Key.{Key}
 use Rattle.sim_clock.specs.Firsts.{changed}
@@ -36,6 +35,9 @@ use Rattle.sqs_model.proofs.Effects.{time_least}
 use Rattle.sqs_model.proofs.Members.{In, found_by_number}
 use Rattle.sqs_model.proofs.Opening.{wakes_first}
 use Rattle.sqs_laws.specs.Sends.{Given, GivesAs, GivesAt, IsSender, after_gap, given_in, message_given, next_sending, sending}
+use Rattle.sqs_laws.specs.Laws.{is_actor_of}
+use Rattle.std.proofs.lemmas.Bool.Decides.{nat_tests}
+use Rattle.sqs_laws.proofs.Naming.{at_place}
 
 -- a script waits for its next call, and a producer for its next message
 abbrev pub Waits : ℕ → Role → Actor → Type 0
@@ -223,6 +225,7 @@ polled_waits seed (Scaler s) a n f = tt
 -- an actor has the settings of its number, and waits for what it does next
 pub record Fits (u : Scenario) (a : Actor) : Type 0 where
   pub settings : slice_get u.actors (a.number - length u.queues) ≡ Some a.settings
+  pub inside : is_actor_of u a.number ≡ true
   pub waits : Waits u.seed a.settings.role a
 
 first_waits : (u : Scenario) (n : ℕ) (a : ActorSettings) (role : Role) → a.role ≡ role → Waits u.seed role (opening_actor u.seed (n, a))
@@ -231,11 +234,15 @@ first_waits u n a (Producer p) e = λ t w. let at : p.start ≡ t = let first : 
 first_waits u n a (Consumer c) e = tt
 first_waits u n a (Scaler s) e = tt
 
-pub first_fits : (u : Scenario) (n : ℕ) (a : ActorSettings) → slice_get u.actors (n - length u.queues) ≡ Some a → Fits u (opening_actor u.seed (n, a))
-first_fits u n a e = record { settings = e; waits = first_waits u n a a.role refl }
+pub first_fits : (u : Scenario) (n : ℕ) (a : ActorSettings) → slice_get u.actors (n - length u.queues) ≡ Some a → length u.queues ≤ n → Fits u (opening_actor u.seed (n, a))
+first_fits u n a e l =
+    let within : n - length u.queues < length u.actors = slice_get_within u.actors (n - length u.queues) a e in
+    let low : nat_le (length u.queues) n ≡ true = grind (arith, nat_tests, l) in
+    let high : nat_lt n (length u.queues + length u.actors) ≡ true = grind (arith, nat_tests, l, within) in
+    record { inside = rw (low, high) refl; settings = e; waits = first_waits u n a a.role refl }
 
 pub polled_fits : (u : Scenario) (a : Actor) (n : ℕ) → Fits u a → Fits u (record a { polls = n })
-polled_fits u a n f = record { settings = f.settings; waits = polled_waits u.seed a.settings.role a n f.waits }
+polled_fits u a n f = record { inside = f.inside; settings = f.settings; waits = polled_waits u.seed a.settings.role a n f.waits }
 
 -- the actors of a site, in the order of their numbers
 pub record AreOfScenario (u : Scenario) (actors : List Actor) : Type 0 where
@@ -261,7 +268,7 @@ may_give u at a (acts.Send body delay group id) f h = (
     λ s g (x, e, y).
         let is : x ≡ a.settings = let both : Some x ≡ Some a.settings = sym e ∙ f in cc in
         let i : ℕ = a.number - length u.queues in
-        let role : IsSoundRole a.settings.role = subst (λ (z : ActorSettings). IsSoundRole z.role) (get_or_from_slice_get u.actors i a.settings a.settings f) (All-get_or (λ z. IsSoundRole z.role) u.actors i a.settings (slice_get_within u.actors i a.settings f) s) in
+        let role : IsSoundRole a.settings.role = at_place (λ z. IsSoundRole z.role) u.actors i a.settings s f in
         h.1 role g (subst (λ (z : ActorSettings). GivesAt (opening_draws u.seed a.number) z.role at g) is y),
   ),
   h.2,
@@ -299,6 +306,7 @@ module _ (u : Scenario) (actors : List Actor) where
     standing x =
         let d = next_decides key.at a w in
         record {
+          inside = ap (is_actor_of u) d.number ∙ own.inside;
           settings = ap (λ i. slice_get u.actors (i - length u.queues)) d.number ∙ own.settings ∙ ap (λ x. Some x) (sym d.settings);
           waits = subst (λ (y : ActorSettings). Waits u.seed y.role (next a key.at w).1) (sym d.settings) (next_waits u.seed a key.at w own.waits x);
         }

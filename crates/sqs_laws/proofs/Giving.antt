@@ -1,9 +1,9 @@
 -- The rows of a receive are a chain of single moves: all messages are received, and with a timeout of 0 all then come back.
 use Rattle.std.specs.List.{list_any}
-use Rattle.std.specs.Prelude.{All, Bool, List, None, Option, Some, [], cond, false, filter, get_or, if◌then◌else◌, length, map, min, not, true, ℕ, ◌&&◌, ◌%◌, ◌++◌, ◌<◌, ◌==◌, ◌∷◌, ◌≡◌, ◌≤◌, ◌+◌}
+use Rattle.std.specs.Prelude.{All, Bool, List, None, Option, Some, [], cond, false, filter, get_or, if◌then◌else◌, length, map, min, not, true, ℕ, ◌&&◌, ◌%◌, ◌++◌, ◌<◌, ◌==◌, ◌∷◌, ◌≡◌, ◌≤◌, ◌+◌, slice_get}
 use Rattle.std.proofs.Common.{ap, arith, refl, subst, sym, ◌∙◌}
 use Rattle.std.proofs.lemmas.Bool.{and_parts, eqb-false, eqb-true}
-use Rattle.std.proofs.lemmas.List.{length-take}
+use Rattle.std.proofs.lemmas.List.{length-take, append_assoc}
 use Rattle.std.proofs.lemmas.List.Elements.{All-cons, All-head, All-nil, All-tail, All-take}
 use Rattle.sim_clock.specs.declared.key.Key.{Key}
 use Rattle.sqs_message.specs.declared.message.Message.{Message}
@@ -25,12 +25,12 @@ use Rattle.sqs_model.proofs.Giving.{gives}
 use Rattle.sqs_model.proofs.Grouped.{all_groups}
 use Rattle.sqs_model.proofs.Numbered.{Apart}
 use Rattle.sqs_model.proofs.QueueAccounts.{same_timeout}
-use Rattle.sqs_laws.proofs.Calls.{AreNext, AreThere, AreToldOf, IsDueNow, Told, all_fit, all_told, back_chain, back_got, other_changed, own_changed, received_chain, received_stand, told_got, told_kept}
+use Rattle.sqs_laws.proofs.Calls.{AreNext, AreThere, AreToldOf, IsDueNow, Told, Returns, all_told, back_chain, back_got, other_changed, own_changed, received_chain, received_stand, told_got, told_kept}
 use Rattle.sqs_laws.proofs.Next.{all_next}
 use Rattle.sqs_laws.proofs.Turns.{available_turns}
-use Rattle.sqs_laws.specs.Laws.{is_actor_of}
 use Rattle.sqs_laws.specs.Sends.{milliseconds_or}
-use Rattle.sqs_laws.proofs.Moves.{FitsSender, IsAskedFor, Chain, IsStocked, Keeps, actors_of, chain_append, chain_keeps}
+use Rattle.sqs_laws.proofs.Moves.{FitsSender, IsAskedFor, Chain, IsStocked, Keeps, actors_of, chain_append, chain_keeps, AreTraced}
+use Rattle.sqs_laws.proofs.Traces.{chain_traces}
 
 -- what a receive tells of messages of a queue: each came there before
 pub record IsKnown (site arrivals : ℕ) (g : Got) : Type 0 where
@@ -104,12 +104,12 @@ timeout_alike : (q : Queue) (own : Option ℕ) → timeout_of q own ≡ millisec
 timeout_alike q None = refl
 timeout_alike q (Some seconds) = refl
 
-module _ (u : Scenario) (past : List Row) (key : Key) (c : Core) (agent : ℕ) (timeout : Option ℕ) (asked : IsAskedFor u past agent key.at timeout) (home : is_actor_of u c.queue.site ≡ false) where
+module _ (u : Scenario) (past : List Row) (key : Key) (c : Core) (agent : ℕ) (timeout : Option ℕ) (asked : IsAskedFor u past agent key.at timeout) (home : slice_get u.queues c.queue.site ≡ Some c.queue.settings) (traced : AreTraced u past c.queue) where
   -- the rows of a receive
   pub record IsGiven (x : Queue × List Got) : Type 0 where
     pub chain : Chain u past key c.queue (given key c agent timeout x).rows (given key c agent timeout x).core.queue
     pub actors : actors_of (given key c agent timeout x).core ≡ actors_of c
-    pub sent : All (FitsSender u) (given key c agent timeout x).sent
+    pub sent : All (FitsSender u (past ++ (given key c agent timeout x).rows)) (given key c agent timeout x).sent
     pub known : AreKnown c.queue.site c.queue.arrivals x.1
 
   module _ (ms : List Message) (apart : Apart ms) (stand : Stand c.queue ms) (visible : All (λ m. is_visible m ≡ true) ms) (few : length ms ≤ room c.queue) (stocked : IsStocked c.queue)
@@ -129,7 +129,7 @@ module _ (u : Scenario) (past : List Row) (key : Key) (c : Core) (agent : ℕ) (
         record {
           chain = subst (λ g. Chain u past key c.queue g.rows g.core.queue) same chain;
           actors = subst (λ (g : Effect). actors_of g.core ≡ actors_of c) same refl;
-          sent = subst (λ (g : Effect). All (FitsSender u) g.sent) same (All-nil (FitsSender u));
+          sent = subst (λ (g : Effect). All (FitsSender u (past ++ g.rows)) g.sent) same (All-nil (FitsSender u (past ++ f.rows)));
           known = known_of gots told;
         }
 
@@ -146,18 +146,20 @@ module _ (u : Scenario) (past : List Row) (key : Key) (c : Core) (agent : ℕ) (
         let behind : List Row = past ++ f.rows in
         let kept : Keeps c.queue taken = chain_keeps u past key f.rows c.queue taken first stocked in
         let there : AreThere key taken ms = all_due key ms c.queue apart stand in
-        let back : (e : Core) → e.queue.site ≡ taken.site → e.queue.settings ≡ taken.settings → Chain u behind key taken (all_came_back key gots e).rows q = λ e s t. back_chain key u behind ms gots taken e s t (back_got key c.queue taken ms) apart there in
-        let from_old : Keeps taken q = chain_keeps u behind key (all_came_back key gots c).rows taken q (back c kept.site kept.settings) kept.stocked in
-        let second : Chain u behind key taken (all_came_back key gots d).rows q = back d (sym from_old.site) (sym from_old.settings) in
+        let place : slice_get u.queues taken.site ≡ Some taken.settings = ap (λ n. slice_get u.queues n) (sym kept.site) ∙ home ∙ ap (λ y. Some y) kept.settings in
+        let back : (e : Core) → e.queue.site ≡ taken.site → e.queue.settings ≡ taken.settings → Returns key u behind taken q (all_came_back key gots e) =
+        λ e s t. back_chain key u behind ms gots taken e place kept.stocked (chain_traces u past key f.rows c.queue taken home stocked first traced) s t (back_got key c.queue taken ms) apart there in
+        let from_old : Keeps taken q = chain_keeps u behind key (all_came_back key gots c).rows taken q (back c kept.site kept.settings).chain kept.stocked in
+        let second : Returns key u behind taken q (all_came_back key gots d) = back d (sym from_old.site) (sym from_old.settings) in
         let after : Told key d (all_came_back key gots d).core = all_told key gots d in
         let whole : Effect = and_then f (all_came_back key gots) in
         let zero : (timeout_of q timeout == 0) ≡ true = ap (λ n. n == 0) (same_timeout c.queue q timeout (sym (kept.settings ∙ from_old.settings))) ∙ e in
         let same : whole ≡ given key c agent timeout (q, gots) = sym (ap (λ z. if z then whole else f) zero) in
-        let chain : Chain u past key c.queue whole.rows whole.core.queue = subst (Chain u past key c.queue whole.rows) (sym after.queue) (chain_append u past key f.rows (all_came_back key gots d).rows c.queue taken q first second) in
+        let chain : Chain u past key c.queue whole.rows whole.core.queue = subst (Chain u past key c.queue whole.rows) (sym after.queue) (chain_append u past key f.rows (all_came_back key gots d).rows c.queue taken q first second.chain) in
         record {
           chain = subst (λ g. Chain u past key c.queue g.rows g.core.queue) same chain;
           actors = subst (λ (g : Effect). actors_of g.core ≡ actors_of c) same after.actors;
-          sent = subst (λ (g : Effect). All (FitsSender u) g.sent) same (all_fit key u gots d (ap (is_actor_of u) (sym (kept.site ∙ from_old.site)) ∙ home));
+          sent = subst (λ (g : Effect). All (FitsSender u (past ++ g.rows)) g.sent) same (subst (λ r. All (FitsSender u r) (all_came_back key gots d).sent) (append_assoc past f.rows (all_came_back key gots d).rows) second.sent);
           known = known_of gots told;
         }
 

@@ -2,7 +2,7 @@
 -- queue.
 use Rattle.std.specs.Prelude.{All, Bool, List, Some, [], false, slice_get, true, ℕ, ◌++◌, ◌<◌, ◌∷◌, ◌≡◌, ◌≤◌, ◌⊎◌, ◌||◌}
 use Rattle.std.proofs.Common.{ap, arith, inl, inr, refl, subst, sym, true≢false, ◌∙◌}
-use Rattle.std.proofs.lemmas.Bool.{leb-true, or_parts}
+use Rattle.std.proofs.lemmas.Bool.{leb-true}
 use Rattle.sim_clock.specs.declared.key.Key.{Key}
 use Rattle.sqs_message.specs.declared.ids.MessageId.{MessageId}
 use Rattle.sqs_message.specs.declared.message.Message.{Message}
@@ -10,7 +10,6 @@ use Rattle.sqs_message.specs.declared.row.Row.{Row}
 use Rattle.sqs_message.specs.declared.row.RowKind.{RowKind}
 use Rattle.sqs_message.specs.declared.row.RowKind.TheVariants as kinds
 use Rattle.sqs_redrive.specs.declared.settings.QueueSettings.{QueueSettings}
-use Rattle.sqs_model.specs.Accounts.{is_deleted, is_expired}
 use Rattle.sqs_model.specs.Queue.{Queue, id_of, is_in_flight, in_flight}
 use Rattle.sqs_model.specs.Run.{IsRunOf, Run}
 use Rattle.sqs_model.specs.Scenario.{Scenario}

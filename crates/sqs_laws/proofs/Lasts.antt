@@ -13,7 +13,7 @@ use Rattle.sqs_model.specs.World.{due_by, world_due}
 use Rattle.sqs_model.proofs.Branches.{by_cases}
 use Rattle.sqs_model.proofs.Members.{In, of_all}
 use Rattle.sqs_laws.proofs.Left.{all_sites}
-use Rattle.sqs_laws.proofs.Moments.{IsFrom, IsTimely, due_timely, from_sites}
+use Rattle.sqs_laws.proofs.Moments.{IsFrom, IsTimely, due_lasts, due_timely, from_sites}
 use Rattle.sqs_laws.proofs.Worlds.{AreNumbered, IsGood, RowLaw, every_site}
 
 -- what is due after a run is due after the horizon
@@ -30,7 +30,7 @@ module _ (s : Scenario) (law : RowLaw s) where
     pub within : In sites site
     pub number : number_of site.core ≡ n
 
-  there : (sites : List Site) (low n : ℕ) → AreNumbered s law low sites → low ≤ n → n < low + length sites → IsThere sites n
+  there : (sites : List Site) (low n : ℕ) → AreNumbered low sites → low ≤ n → n < low + length sites → IsThere sites n
   there [] low n a l k = absurd (omega (arith, l, k))
   there (x ∷ xs) low n a l k =
       by_cases (n == low) (λ e. record { site = x; within = inl refl; number = a.0 ∙ sym (eqb-true n low e) })
@@ -45,6 +45,7 @@ module _ (s : Scenario) (law : RowLaw s) where
     pub number : number_of site.core ≡ n
     pub good : IsGood s law r.rows site
     pub timely : IsTimely (s.horizon + 1) site.core.queue
+    pub lasts : All (λ m. s.horizon + 1 ≤ m.enqueued + site.core.queue.settings.retention) site.core.queue.records
 
   pub last_of : (r : Run) → IsRunOf s r → (n : ℕ) (q : QueueSettings) → slice_get s.queues n ≡ Some q → IsLast r n
   last_of r is n q e =
@@ -58,4 +59,5 @@ module _ (s : Scenario) (law : RowLaw s) where
         number = x.number;
         good = of_all (IsGood s law r.rows) r.sites x.site all.0 x.within;
         timely = due_timely (s.horizon + 1) x.site (of_all (λ y. IsFrom (s.horizon + 1) (least_due y)) r.sites x.site from x.within);
+        lasts = due_lasts (s.horizon + 1) x.site (of_all (λ y. IsFrom (s.horizon + 1) (least_due y)) r.sites x.site from x.within);
       }

@@ -24,15 +24,15 @@ use Rattle.sqs_model.specs.World.{Stepped, delivered, delivered_one, handled_amo
 use Rattle.sqs_model.proofs.Branches.{either}
 use Rattle.sqs_model.proofs.Numbered.{Climbs}
 use Rattle.sqs_laws.specs.Laws.{WhatIsLeft}
-use Rattle.sqs_laws.specs.Words.{comings, flying, has_left, is_in_flight, origin_of, that_stay, times}
+use Rattle.sqs_laws.specs.Words.{flying, has_left, is_in_flight, origin_of, that_stay, times}
 use Rattle.sqs_laws.proofs.End as end
 use Rattle.sqs_laws.proofs.Flights as fly
 use Rattle.sqs_laws.proofs.Letters as letters
 use Rattle.sqs_laws.proofs.Moves.{IsStocked}
 use Rattle.sqs_laws.proofs.Numbers.{found_all, found_by, none_below}
-use Rattle.sqs_laws.proofs.Origins as origins
 use Rattle.sqs_laws.proofs.Slots.{of_there}
-use Rattle.sqs_laws.proofs.Worlds.{AreNumbered, IsGood, RowLaw, both, every_site}
+use Rattle.sqs_laws.proofs.Worlds.{AreNumbered, IsGood, RowLaw, both, every_site, traces}
+use Rattle.sqs_laws.proofs.Traces.{traced_of}
 
 -- a run has as many sites at its end as at its opening
 pub same_among : (key : Key) (sites : List Site) → length (handled_among key sites).sites ≡ length sites
@@ -115,7 +115,7 @@ not_none (Some m) = refl
 
 module _ (s : Scenario) (valid : All IsQueueSettings s.queues) where
   abbrev told : RowLaw s
-  told = both s (both s (end.the_end s) (fly.flights s)) (both s (letters.letters s valid) (origins.origins s))
+  told = both s (both s (end.the_end s) (fly.flights s)) (both s (letters.letters s valid) (traces s))
 
   module _ (rows : List Row) where
     -- what the rows tell of a message that is left
@@ -142,7 +142,7 @@ module _ (s : Scenario) (valid : All IsQueueSettings s.queues) where
         map_finals q q.records ∙ stays_from q (λ m. not (has_left m rows)) q.arrivals 0 q.records k.ordered (from_none q.arrivals q.records k.given_out) stays
         ∙ ap (λ n. filter (λ m. not (has_left m rows)) (map (id q (λ m. true)) (range_with_len 0 n))) (sym g.holds.0.0.0)
 
-    all_ids : (n : ℕ) (sites : List Site) → All (IsGood s told rows) sites → AreNumbered s told n sites → map (λ (m : FinalMessage). m.id) (flat_map messages_at sites) ≡ flat_map (λ i. that_stay i rows) (range_with_len n (length sites))
+    all_ids : (n : ℕ) (sites : List Site) → All (IsGood s told rows) sites → AreNumbered n sites → map (λ (m : FinalMessage). m.id) (flat_map messages_at sites) ≡ flat_map (λ i. that_stay i rows) (range_with_len n (length sites))
     all_ids n [] g a = refl
     all_ids n (x ∷ xs) g a =
         map-append (λ (m : FinalMessage). m.id) (messages_at x) (flat_map messages_at xs)
@@ -164,5 +164,5 @@ module _ (s : Scenario) (valid : All IsQueueSettings s.queues) where
         messages = all_ids rows 0 r.sites every.0 every.1 ∙ ap (λ n. flat_map (λ i. that_stay i rows) (range_with_len 0 n)) (all_sites s r is);
         in_flight = all_told rows (Flies rows) (λ x g n m e o. let q : Queue = x.core.queue in sym (subst (λ j. flying (id_of q j) rows ≡ flies_there m) o (fly.flies_of s rows q g.holds.0.1 n m e))) r.sites every.0;
         received = all_told rows (Received rows) (λ x g n m e o. let q : Queue = x.core.queue in sym (subst (λ j. times (id_of q j) rows ≡ m.receives) o ((of_there s (letters.letter_law s valid) rows q g.holds.1.0 n m e).0))) r.sites every.0;
-        origins = all_told rows (HasOrigin rows) (λ x g n m e o. let q : Queue = x.core.queue in subst (λ j. origin_of (id_of q j) rows ≡ Some m.origin) o (of_there s (origins.origin_law s) rows q g.holds.1.1 n m e)) r.sites every.0;
+        origins = all_told rows (HasOrigin rows) (λ x g n m e o. let q : Queue = x.core.queue in subst (λ j. origin_of (id_of q j) rows ≡ Some m.origin) o (traced_of s rows q g.holds.1.1.1 n m e).origin) r.sites every.0;
       }

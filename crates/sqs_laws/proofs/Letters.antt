@@ -1,8 +1,7 @@
 -- Dead letters: a message leaves for the dead-letter queue exactly when it was received as often as the policy says.
-use Rattle.std.specs.Prelude.{All, List, None, Option, Some, [], false, slice_get, suc, true, zero, ℕ, ◌&&◌, ◌+◌, ◌++◌, ◌<◌, ◌∷◌, ◌≡◌, ◌≤◌, ◌||◌}
+use Rattle.std.specs.Prelude.{All, List, None, Option, Some, [], false, slice_get, true, ℕ, ◌&&◌, ◌+◌, ◌++◌, ◌<◌, ◌∷◌, ◌≡◌, ◌≤◌, ◌||◌}
 use Rattle.std.proofs.Common.{ap, arith, refl, subst, sym, ◌∙◌}
-use Rattle.std.proofs.lemmas.Bool.{leb-false, leb-true, or_parts}
-use Rattle.std.proofs.lemmas.List.Elements.{All-head, All-tail}
+use Rattle.std.proofs.lemmas.Bool.{leb-false, leb-true, and_parts}
 use Rattle.std.proofs.Math.Bool.{and-false}
 use Rattle.sim_clock.specs.declared.key.Key.{Key}
 use Rattle.sqs_message.specs.declared.ids.MessageId.{MessageId}
@@ -11,7 +10,6 @@ use Rattle.sqs_message.specs.declared.row.Detail.TheVariants as details
 use Rattle.sqs_message.specs.declared.row.Row.{Row}
 use Rattle.sqs_redrive.specs.declared.settings.Policy.{Policy}
 use Rattle.sqs_redrive.specs.declared.settings.QueueSettings.{QueueSettings}
-use Rattle.sqs_model.specs.Accounts.{is_deleted, is_expired}
 use Rattle.sqs_model.specs.Queue.{Queue, id_of, is_in_flight}
 use Rattle.sqs_model.specs.Return.{leaves}
 use Rattle.sqs_model.specs.Run.{IsRunOf, Run}
@@ -19,13 +17,15 @@ use Rattle.sqs_model.specs.Scenario.{Scenario}
 use Rattle.sqs_model.specs.Valid.{IsQueueSettings, MayBePolicy}
 use Rattle.sqs_model.proofs.Ledger.{bit}
 use Rattle.sqs_laws.specs.Laws.{DeadLetters, HasPolicy}
-use Rattle.sqs_laws.specs.Words.{EachRow, is_redrive, is_release, names, times}
+use Rattle.sqs_laws.specs.Words.{EachRow, is_redrive, is_release, names, times, is_arrive}
 use Rattle.sqs_laws.specs.Words as words
-use Rattle.sqs_laws.proofs.Moves.{Does, Names, Redrives, changes, comes, ends, receives, redrives, releases, stays}
+use Rattle.sqs_laws.proofs.Moves.{Does, Names, Redrives, changes, comes, ends, receives, redrives, releases, stays, Comes, as_told}
 use Rattle.sqs_laws.proofs.Said.{names_same, times_as, none_leaves}
 use Rattle.sqs_laws.proofs.Slots.{Holds, MessageLaw, Slot, by_messages, gone, of_there, there, unborn}
-use Rattle.sqs_laws.proofs.Worlds.{RowLaw, every_row_by}
+use Rattle.sqs_laws.proofs.Worlds.{RowLaw, every_row_by, traces}
 use Rattle.sqs_laws.proofs.Calls.{visible_rests}
+use Rattle.sqs_laws.proofs.Traces.{comes_from, comes_found}
+use Rattle.sqs_laws.proofs.Naming.{at_place}
 
 -- a message that may still be received, or is in flight after as many receives as there may be
 pub record IsWithin (most : ℕ) (m : Message) : Type 0 where
@@ -61,11 +61,6 @@ module _ (s : Scenario) where
   positive None v x f = cc
   positive (Some y) v x f = let is : y ≡ x = cc in subst (λ (z : Policy). 1 ≤ z.max_receives) is v.receives.0
 
-  pub valid_at : (queues : List QueueSettings) (n : ℕ) (q : QueueSettings) → All IsQueueSettings queues → slice_get queues n ≡ Some q → IsQueueSettings q
-  valid_at [] n q a e = cc
-  valid_at (x ∷ xs) zero q a e = let is : x ≡ q = cc in subst IsQueueSettings is (All-head IsQueueSettings x xs a)
-  valid_at (x ∷ xs) (suc n) q a e = valid_at xs n q (All-tail IsQueueSettings x xs a) e
-
   pub lasts_by : (o : Option Policy) (m : Message) → leaves o m ≡ false → (x : Policy) → o ≡ Some x → m.receives < x.max_receives
   lasts_by None m l x e = cc
   lasts_by (Some y) m l x e = let is : y ≡ x = cc in subst (λ (z : Policy). m.receives < z.max_receives) is (leb-false y.max_receives m.receives l)
@@ -76,10 +71,10 @@ module _ (s : Scenario) where
         Said = λ q rows i x. IsCounted q x (times i rows);
         opens = λ q i. refl;
         other = λ q rows r i x e h. subst (IsCounted q x) (sym (same_times i rows r (ap (λ b. words.received r && b) e ∙ and-false (words.received r)))) h;
-        stays = λ q rows r i x t e h. still_counted q i rows r x t.received_so h;
+        stays = λ rows key q r p a t n e x y h. still_counted q.settings (id_of q n) rows r x t.received_so h;
         comes = λ rows key q r p a d e h. (
           same_times (id_of q q.arrivals) rows r (rw d.tells.received_so refl) ∙ h ∙ sym d.fresh,
-          λ x f. let one : 1 ≤ x.max_receives = positive q.settings.policy (valid_at s.queues q.site q.settings v a.settings).policy x f in record { receives = omega (arith, d.fresh, one); rested = λ _. omega (arith, d.fresh, one) },
+          λ x f. let one : 1 ≤ x.max_receives = positive q.settings.policy (at_place IsQueueSettings s.queues q.site q.settings v a.settings).policy x f in record { receives = omega (arith, d.fresh, one); rested = λ _. omega (arith, d.fresh, one) },
         );
         receives = λ rows key q r p a d e h.
             let once : times (id_of q d.number) (rows ++ r ∷ []) ≡ times (id_of q d.number) rows + bit true = times_as (id_of q d.number) rows r true (rw (d.tells.received_so, names_same (id_of q d.number) r d.names.message) refl) in (
@@ -90,7 +85,7 @@ module _ (s : Scenario) where
         releases = λ rows key q r p a d h.
             let x = still_counted q.settings (id_of q d.number) rows r (there d.one) d.tells.received_so h in
             (x.0, λ y f. let fewer : d.one.receives < y.max_receives = lasts_by q.settings.policy d.one d.lasts y f in record { receives = omega (arith, fewer); rested = λ _. fewer });
-        leaves = λ q rows r i one t e h. tt;
+        leaves = λ rows key q r p a t one n d h. tt;
       }
 
   abbrev pub letters : All IsQueueSettings s.queues → RowLaw s
@@ -148,4 +143,10 @@ module _ (s : Scenario) where
       record {
         leaves = λ before r after e m i t. (each before r after e m i).leaves t;
         stays = λ before r after e m i t y w. (each before r after e m i).stays t y w;
+        arrives =
+            every_row_by s (traces s) _
+            (λ rows key q r p now d g k h j t l.
+            let both = and_parts (is_arrive r.kind) (words.comes r) t in
+            let x : Comes key q r p = (as_told key q r p d.does).comes both.1 in
+            comes_from s rows key q r p d.at_key d.at_site h.0 g x (comes_found key q r p k x) both.0 l) x is;
       }

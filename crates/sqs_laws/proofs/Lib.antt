@@ -1,4 +1,5 @@
 pub mod Moves
+pub mod Traces
 pub mod Calls
 pub mod Giving
 pub mod Rows
@@ -24,14 +25,13 @@ pub mod Reach
 pub mod Sent
 pub mod Journeys
 pub mod Told
-pub mod Ages
+pub mod Retention
 pub mod Numbers
 pub mod Polled
 pub mod Gives
 pub mod Turns
 pub mod Naming
 pub mod Next
-pub mod Sends
 pub mod Fifo
 pub mod Repeats
 pub mod Delays

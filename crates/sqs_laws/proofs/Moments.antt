@@ -1,26 +1,28 @@
 -- Nothing that a queue holds back should have come back before: at a handling, and at the end of a run.
 use Rattle.std.specs.Ordering.{is_lt}
-use Rattle.std.specs.Prelude.{All, Bool, List, None, Option, Some, [], false, flat_map, if◌then◌else◌, map, true, ℕ, ◌+◌, ◌==◌, ◌∷◌, ◌≡◌, ◌≤◌, ◌*◌}
+use Rattle.std.specs.Prelude.{All, Bool, List, None, Option, Some, [], false, flat_map, if◌then◌else◌, map, true, ℕ, ◌+◌, ◌==◌, ◌∷◌, ◌≡◌, ◌≤◌, ◌*◌, get_or, ◌++◌, ◌&&◌, ◌⊎◌}
 use Rattle.std.proofs.Common.{ap, arith, inl, inr, refl, subst, sym, ◌∙◌}
-use Rattle.std.proofs.lemmas.List.Elements.{All-push, All-cons, All-nil}
+use Rattle.std.proofs.lemmas.List.Elements.{All-cons, All-nil}
 use Rattle.sim_clock.specs.declared.key.Key.{Key}
 use Rattle.sim_clock.specs.Order.{key_cmp, least, lesser}
 use Rattle.sim_clock.proofs.Orderings.{key_less, key_not_less}
 use Rattle.sqs_message.specs.declared.message.Message.{Message}
 use Rattle.sqs_message.specs.declared.row.Row.{Row}
 use Rattle.sqs_redrive.specs.Transfers.{transfer_key}
-use Rattle.sqs_model.specs.Calls.{in_flight_until}
-use Rattle.sqs_model.specs.Dues.{actor_dues, core_dues, dues, least_due, message_dues, poll_key, queue_dues, release_due, sample_dues, task_dues}
-use Rattle.sqs_model.specs.Queue.{Queue, has_number, numbered}
-use Rattle.sqs_model.specs.Receive.{received}
-use Rattle.sqs_model.specs.Return.{visible_again}
+use Rattle.sqs_model.specs.Dues.{actor_dues, core_dues, dues, least_due, message_dues, poll_key, queue_dues, release_due, sample_dues, task_dues, expiry_key}
+use Rattle.sqs_model.specs.Queue.{Queue, has_number, numbered, id_of}
 use Rattle.sqs_model.specs.Site.{Core, Site}
 use Rattle.sqs_model.specs.World.{world_due}
 use Rattle.sqs_model.proofs.Branches.{by_cases}
-use Rattle.sqs_model.proofs.Counts.{all_changed, all_without, find_all}
+use Rattle.sqs_model.proofs.Counts.{find_all}
 use Rattle.sqs_model.proofs.EachDue.{release_key}
 use Rattle.sqs_model.proofs.Members.{In, all_in, in_left, in_right, into_flat}
-use Rattle.sqs_laws.proofs.Moves.{Does, Waits, changes, comes, ends, receives, redrives, releases, stays}
+use Rattle.sqs_laws.proofs.Moves.{Does, Waits, CameNow, IsStocked, Keeps, does_keep, does_all, Comes}
+use Rattle.sqs_laws.proofs.Naming.{last_as, names_same}
+use Rattle.sqs_laws.specs.Words.{names}
+use Rattle.sqs_laws.specs.Words as words
+use Rattle.sqs_laws.proofs.Traces.{does_apart}
+use Rattle.sqs_redrive.specs.declared.settings.QueueSettings.{QueueSettings}
 
 -- what is due, if anything, is due from a moment on
 abbrev pub IsFrom : ℕ → Option Key → Type 0
@@ -45,18 +47,18 @@ pub from_sites : (at : ℕ) (sites : List Site) → IsFrom at (world_due sites) 
 from_sites at [] h = All-nil (λ s. IsFrom at (least_due s))
 from_sites at (s ∷ ss) h = let x = from_both at (least_due s) (world_due ss) h in All-cons (λ y. IsFrom at (least_due y)) s ss x.0 (from_sites at ss x.1)
 
--- the release of a message is due
-core_releases : (c : Core) (m : Message) (t : ℕ) → In c.queue.records m → m.release ≡ Some t → In (core_dues c) (release_key c.queue.site t m)
-unfolding core_dues
-core_releases c m t i r =
-    let k : Key = release_key c.queue.site t m in
-    let own : In (release_due c.queue.site m m.release) k = subst (λ o. In (release_due c.queue.site m o) k) (sym r) (inl refl) in
-    let messages : In (queue_dues c.queue) k = into_flat (message_dues c.queue.site c.queue.settings.retention) c.queue.records m k i (inr own) in
-    in_left _ (flat_map task_dues c.tasks) k (in_left _ (sample_dues c) k (in_left _ (flat_map actor_dues c.actors) k (in_left (queue_dues c.queue) (map poll_key c.polls) k messages)))
+-- what is due of a queue is due at its site
+queue_due : (s : Site) (k : Key) → In (queue_dues s.core.queue) k → In (dues s) k
+unfolding dues core_dues
+queue_due s k i =
+    let c : Core = s.core in
+    in_right (map transfer_key s.arriving) (core_dues c) k (in_left _ (flat_map task_dues c.tasks) k (in_left _ (sample_dues c) k (in_left _ (flat_map actor_dues c.actors) k (in_left (queue_dues c.queue) (map poll_key c.polls) k i))))
+
+message_due : (s : Site) (m : Message) (k : Key) → In s.core.queue.records m → In (message_dues s.core.queue.site s.core.queue.settings.retention m) k → In (dues s) k
+message_due s m k i e = queue_due s k (into_flat (message_dues s.core.queue.site s.core.queue.settings.retention) s.core.queue.records m k i e)
 
 site_releases : (s : Site) (m : Message) (t : ℕ) → In s.core.queue.records m → m.release ≡ Some t → In (dues s) (release_key s.core.queue.site t m)
-unfolding dues
-site_releases s m t i r = in_right (map transfer_key s.arriving) (core_dues s.core) (release_key s.core.queue.site t m) (core_releases s.core m t i r)
+site_releases s m t i r = message_due s m (release_key s.core.queue.site t m) i (inr (subst (λ o. In (release_due s.core.queue.site m o) (release_key s.core.queue.site t m)) (sym r) (inl refl)))
 
 -- nothing that a queue holds back should have come back before a moment
 abbrev pub IsTimely : ℕ → Queue → Type 0
@@ -77,13 +79,38 @@ waits_timely at delay m w t r =
     (λ e. let some : m.release ≡ Some (at + delay) = w.release ∙ ap (λ b. if b then None else Some (at + delay)) e in let is : at + delay ≡ t = cc in omega (arith, is))
 
 pub does_timely : (key : Key) (q : Queue) (r : Row) (p : Queue) → Does key q r p → IsTimely key.at q → IsTimely key.at p
-does_timely key q r p (stays d) h = subst (IsTimely key.at) d.same h
-does_timely key q r p (comes d) h = subst (IsTimely key.at) d.after (All-push (λ m. (t : ℕ) → m.release ≡ Some t → key.at ≤ t) q.records d.one h (waits_timely key.at d.delay d.one d.waits))
-does_timely key q r p (receives d) h =
-    subst (IsTimely key.at) d.after (all_changed (has_number d.number) (λ m. (t : ℕ) → m.release ≡ Some t → key.at ≤ t) (received key.at d.timeout) (λ m l t e. let is : key.at + d.timeout ≡ t = cc in omega (arith, is)) q.records h)
-does_timely key q r p (changes d) h =
-    subst (IsTimely key.at) d.after
-    (all_changed (has_number d.number) (λ m. (t : ℕ) → m.release ≡ Some t → key.at ≤ t) (in_flight_until (key.at + 1000 * d.timeout)) (λ m l t e. let is : key.at + 1000 * d.timeout ≡ t = cc in omega (arith, is)) q.records h)
-does_timely key q r p (releases d) h = subst (IsTimely key.at) d.after (all_changed (has_number d.number) (λ m. (t : ℕ) → m.release ≡ Some t → key.at ≤ t) visible_again (λ m l t e. cc) q.records h)
-does_timely key q r p (redrives d) h = subst (IsTimely key.at) d.after (all_without (has_number d.number) (λ m. (t : ℕ) → m.release ≡ Some t → key.at ≤ t) q.records h)
-does_timely key q r p (ends d) h = subst (IsTimely key.at) d.after (all_without (has_number d.number) (λ m. (t : ℕ) → m.release ≡ Some t → key.at ≤ t) q.records h)
+does_timely key q r p d h =
+    does_all key q r p (λ m. (t : ℕ) → m.release ≡ Some t → key.at ≤ t)
+    (record {
+      receives = λ u m l t e. let is : key.at + u ≡ t = cc in omega (arith, is);
+      changes = λ u m l t e. let is : key.at + 1000 * u ≡ t = cc in omega (arith, is);
+      comes_back = λ m l t e. cc;
+    }) (λ c. waits_timely key.at c.delay c.one c.waits) d h
+
+-- the retention of no message was over before a moment, but of what comes now
+abbrev pub IsOpen : List Row → ℕ → Queue → Type 0
+IsOpen rows at q = All (λ m. (at ≤ m.enqueued + q.settings.retention) ⊎ CameNow rows (id_of q m.number) at) q.records
+
+pub due_lasts : (at : ℕ) (s : Site) → IsFrom at (least_due s) → All (λ m. at ≤ m.enqueued + s.core.queue.settings.retention) s.core.queue.records
+due_lasts at s h = all_in (λ m. at ≤ m.enqueued + s.core.queue.settings.retention) s.core.queue.records (λ m i. from_each at (dues s) h (expiry_key s.core.queue.site s.core.queue.settings.retention m) (message_due s m (expiry_key s.core.queue.site s.core.queue.settings.retention m) i (inl refl)))
+
+pub due_open : (rows : List Row) (at : ℕ) (s : Site) → IsFrom at (least_due s) → IsOpen rows at s.core.queue
+due_open rows at s h = λ j x l. inl (due_lasts at s h j x l)
+
+-- so it is behind each row of a handling
+pub does_open : (rows : List Row) (key : Key) (q : Queue) (r : Row) (p : Queue) → r.key ≡ key → Does key q r p → IsStocked q → IsOpen rows key.at q → IsOpen (rows ++ r ∷ []) key.at p
+does_open rows key q r p at_key does k h =
+    let kept : Keeps q p = does_keep key q r p does k in
+    subst (λ n. All (λ m. (key.at ≤ m.enqueued + p.settings.retention) ⊎ CameNow (rows ++ r ∷ []) (record { site = n; number = m.number }) key.at) p.records) kept.site
+    (subst (λ (z : QueueSettings). All (λ m. (key.at ≤ m.enqueued + z.retention) ⊎ CameNow (rows ++ r ∷ []) (id_of q m.number) key.at) p.records) kept.settings
+    (does_all key q r p Open (record { receives = λ t m o. o; changes = λ t m o. o; comes_back = λ m o. o }) now does (λ j x l. later (get_or q.records j x) (does_apart key q r p does k j x l) (h j x l))))
+  where
+    Open : Message → Type 0
+    Open m = (key.at ≤ m.enqueued + q.settings.retention) ⊎ CameNow (rows ++ r ∷ []) (id_of q m.number) key.at
+
+    later : (m : Message) → (words.comes r && names (id_of q m.number) r) ≡ false → (key.at ≤ m.enqueued + q.settings.retention) ⊎ CameNow rows (id_of q m.number) key.at → Open m
+    later m e (inl l) = inl l
+    later m e (inr (by, c, w)) = inr (by, last_as words.comes (id_of q m.number) rows r false e ∙ c, w)
+
+    now : (d : Comes key q r p) → Open d.one
+    now d = inr (subst (λ n. CameNow (rows ++ r ∷ []) (id_of q n) key.at) (sym d.number) (r, last_as words.comes (id_of q q.arrivals) rows r true (rw (d.tells.comes_so, names_same (id_of q q.arrivals) r d.message) refl), ap (λ (x : Key). x.at) at_key))

@@ -24,6 +24,10 @@ use Rattle.sqs_redrive.specs.declared.answers.Deleted.{Deleted}
 use Rattle.sqs_redrive.specs.declared.answers.Deleted.TheVariants.{Gone, Kept, Removed}
 use Rattle.sqs_redrive.specs.declared.settings.Policy.{Policy}
 use Rattle.sqs_redrive.specs.declared.transfers.Load.{Load}
+use Rattle.sqs_redrive.specs.declared.transfers.Load.TheVariants as loads
+use Rattle.sqs_message.specs.declared.ids.Origin.{Origin}
+use Rattle.sqs_model.specs.Arrive.{brought, enqueued_at}
+use Rattle.std.proofs.lemmas.Bool.{or_parts}
 use Rattle.sqs_redrive.specs.MoveTasks.{is_worn}
 use Rattle.md5.specs.Md5.{md5}
 use Rattle.sqs_message.specs.declared.calls.Call.TheVariants as calls
@@ -35,7 +39,7 @@ use Rattle.sqs_model.specs.Actor.{Actor}
 use Rattle.sqs_model.specs.Accounts.{is_deleted, is_expired, origin_in}
 use Rattle.sqs_model.specs.Queue.{Entry, Queue, has_number, id_of, in_flight, is_in_flight, is_visible, numbered, same_group, taken_out, with_change}
 use Rattle.sqs_model.specs.Calls.{change, delete, in_flight_until, with_message}
-use Rattle.sqs_model.specs.Longest.{deduplication_interval}
+use Rattle.sqs_model.specs.Longest.{deduplication_interval, longest_flight}
 use Rattle.sqs_model.specs.Receive.{received}
 use Rattle.sqs_model.specs.Progress.{IsSoundRole}
 use Rattle.sqs_model.specs.Return.{leaves, visible_again}
@@ -45,12 +49,11 @@ use Rattle.sqs_model.proofs.Counts.{all_changed, all_without, ascends_changed, a
 use Rattle.sqs_model.proofs.Members.{In, in_left, of_all}
 use Rattle.sqs_model.proofs.Numbered.{Climbs}
 use Rattle.sqs_model.specs.Site.{Core, Poll}
-use Rattle.sqs_model.proofs.Sending.{IsForward}
 use Rattle.sqs_model.proofs.SiteAccounts.{IsFound}
 use Rattle.sqs_model.specs.Task.{Task}
 use Rattle.sqs_redrive.specs.declared.transfers.Outbound.{Outbound}
 use Rattle.sqs_laws.specs.Sends.{AsksBy, Given, GivesAs, IsByCall, IsSender, delay_given, key_given, milliseconds_or}
-use Rattle.sqs_laws.specs.Laws.{is_actor_of, is_fifo}
+use Rattle.sqs_laws.specs.Laws.{EnqueuedAt, HasPolicy, MayArrive, fifo_at, is_actor_of, is_fifo}
 use Rattle.sqs_laws.specs.Words as words
 
 -- a deduplication entry of a queue, or a new one of the message that comes to it, which lives for 5 minutes
@@ -118,6 +121,10 @@ Asks key q r kinds.Delete = AsksDelete key q r
 Asks key q r kinds.Change = AsksChange key q r
 Asks key q r kind = Unit {0}
 
+-- the origin of the next message that is accepted at a queue
+abbrev pub own_origin : Queue → Origin
+own_origin q = record { site = q.site; number = q.arrivals }
+
 module _ (key : Key) (q : Queue) (r : Row) (p : Queue) where
   -- a row that tells of no message that came, changed or left; it may name one that came before
   pub record Stays : Type 0 where
@@ -137,9 +144,8 @@ module _ (key : Key) (q : Queue) (r : Row) (p : Queue) where
     pub fresh : one.receives ≡ 0
     pub delay : ℕ
     pub waits : Waits key.at delay one
-    pub arrives : words.is_send r.kind ≡ false → (delay ≡ 0) ⊎ (delay ≡ q.settings.delay)
     pub told : origin_in r (Some (id_of q q.arrivals)) ≡ Some one.origin
-    pub sent : words.is_send r.kind ≡ true → (one.enqueued ≡ key.at) × (one.source ≡ None)
+    pub sent : words.is_send r.kind ≡ true → (one.enqueued ≡ key.at) × (one.origin ≡ own_origin q)
     pub entered : All (IsEntered key q) entries
     pub after : with_message (record q { entries = entries }) one ≡ p
 
@@ -171,6 +177,7 @@ module _ (key : Key) (q : Queue) (r : Row) (p : Queue) where
     pub names : Names one number
     pub flies : is_in_flight one ≡ true
     pub told : r.detail ≡ details.Timeout timeout
+    pub limit : key.at + 1000 * timeout ≤ one.received + longest_flight
     pub after : with_change q number (in_flight_until (key.at + 1000 * timeout)) ≡ p
 
   -- it may be received again
@@ -206,8 +213,6 @@ module _ (key : Key) (q : Queue) (r : Row) (p : Queue) where
     pub names : Names one number
     pub kind : words.is_redrive r.kind ≡ false
     pub rested : words.is_move r.kind ≡ true → is_visible one ≡ true
-    pub age : one.source ≡ None → (is_deleted r.answer || is_expired r.answer) ≡ true → r.detail ≡ details.Age (key.at - one.enqueued)
-    pub due : one.source ≡ None → is_expired r.answer ≡ true → key.at ≡ one.enqueued + q.settings.retention
     pub after : taken_out q number ≡ p
 
   pub data Does : Type 0 where
@@ -271,25 +276,111 @@ pub record IsTimed (s : Scenario) (past : List Row) (q : Queue) (r : Row) (one :
   pub asked : IsAskedFor s past r.agent r.key.at timeout
   pub release : one.release ≡ Some (r.key.at + milliseconds_or q.settings.visibility timeout)
 
+-- the group of the message of an origin: that with which it was sent, if it was sent to a FIFO queue
+abbrev pub OfGroup : Scenario → List Row → Origin → Option (List ℕ) → Type 0
+OfGroup s rows o group =
+    (by : Row) × (words.accepted_by o rows ≡ Some by)
+    × ((words.is_send by.kind && fifo_at s by) ≡ true → All (λ a. IsSoundRole a.role) s.actors → (x : Given) → GivesAs s by.agent by.key.at x → group ≡ x.group)
+
+-- what a message of a queue brought to it, and since when it counts as enqueued, by the rows so far
+pub record IsTraced (s : Scenario) (rows : List Row) (i : MessageId) (m : Message) : Type 0 where
+  pub origin : words.origin_of i rows ≡ Some m.origin
+  pub enqueued : EnqueuedAt s rows i m.enqueued
+  pub group : OfGroup s rows m.origin m.group
+
+-- so it is with the messages of a queue, and none was accepted yet that will get its next numbers
+pub record AreTraced (s : Scenario) (rows : List Row) (q : Queue) : Type 0 where
+  pub each : All (λ m. IsTraced s rows (id_of q m.number) m) q.records
+  pub fresh : (n : ℕ) → q.arrivals ≤ n → words.accepted_by (record { site = q.site; number = n }) rows ≡ None
+
+-- a dead letter under way, and the row by which it left
+pub record IsUnderWay (s : Scenario) (rows : List Row) (o : Outbound) (id : MessageId) (group : Option (List ℕ)) (origin : Origin) (enqueued : ℕ) : Type 0 where
+  pub sender : o.sender < length s.queues
+  pub left : Row
+  pub before : List Row
+  pub after : List Row
+  pub split : rows ≡ before ++ (left ∷ after)
+  pub redriven : words.is_redrive left.kind ≡ true
+  pub named : left.message ≡ Some id
+  pub from : left.queue ≡ o.sender
+  pub to : left.detail ≡ details.Queue o.to
+  pub late : (p : Policy) → HasPolicy s left p → MayArrive p.latency left.key.at o.at
+  pub told : words.origin_of id before ≡ Some origin
+  pub since : EnqueuedAt s before id enqueued
+  pub of_group : OfGroup s rows origin group
+
+-- which agents send which loads: a queue what it redrives, a task what it moves, and an actor what it forwards
+abbrev pub FitsLoad : Scenario → List Row → Outbound → Load → Type 0
+FitsLoad s rows o (loads.Redrive id group origin body enqueued) = IsUnderWay s rows o id group origin enqueued
+FitsLoad s rows o (loads.Move id group origin body) = (length s.queues + length s.actors ≤ o.sender) × OfGroup s rows origin group
+FitsLoad s rows o (loads.Forward id group body) = is_actor_of s o.sender ≡ true
+
+abbrev pub FitsSender : Scenario → List Row → Outbound → Type 0
+FitsSender s rows o = FitsLoad s rows o o.load
+
+-- the message that a load makes as it arrives
+abbrev pub IsMadeBy : Queue → ℕ → Load → Message → Type 0
+IsMadeBy q at (loads.Redrive id group origin body enqueued) m = m ≡ brought q at origin body group (enqueued_at q.settings.kind at enqueued) (Some id.site)
+IsMadeBy q at (loads.Move id group origin body) m = m ≡ brought q at origin body group at None
+IsMadeBy q at (loads.Forward id group body) m = (m.enqueued ≡ at) × Waits at q.settings.delay m × (m.origin ≡ own_origin q)
+
+-- a message that a transfer brings
+pub record IsBrought (s : Scenario) (past : List Row) (q : Queue) (r : Row) (m : Message) : Type 0 where
+  pub transfer : Outbound
+  pub fits : FitsSender s past transfer
+  pub sender : transfer.sender ≡ r.agent
+  pub to : transfer.to ≡ q.site
+  pub at : transfer.at ≡ r.key.at
+  pub arrives : words.is_arrive r.kind ≡ true
+  pub made : IsMadeBy q r.key.at transfer.load m
+
+-- a message came by a row of this moment
+abbrev pub CameNow : List Row → MessageId → ℕ → Type 0
+CameNow rows i at = (by : Row) × (words.came_by i rows ≡ Some by) × (by.key.at ≡ at)
+
+-- a message that is deleted or expires tells its age, and expires at the end of its retention or as it comes
+pub record IsEnd (past : List Row) (q : Queue) (r : Row) (n : ℕ) (m : Message) : Type 0 where
+  pub age : r.detail ≡ details.Age (r.key.at - m.enqueued)
+  pub over : is_expired r.answer ≡ true → (r.key.at ≡ m.enqueued + q.settings.retention) ⊎ ((m.enqueued + q.settings.retention ≤ r.key.at) × CameNow past (id_of q n) r.key.at)
+
 -- What a row has to do with the settings, and with the rows before it. What is sent is what its actor gives, with its group and
--- with an entry of its deduplication id. What a FIFO queue gives is the next of its group, and what is repeated has an entry.
+-- with an entry of its deduplication id, and what arrives is what was under way. What a FIFO queue gives is the next of its
+-- group, and what is repeated has an entry. What ends tells its age.
 pub record IsBehind (s : Scenario) (past : List Row) (q : Queue) (r : Row) (p : Queue) : Type 0 where
   pub given : (words.is_send r.kind && words.comes r) ≡ true → (m : Message) → numbered q.arrivals p.records ≡ Some m → All (λ a. IsSoundRole a.role) s.actors → (x : Given) → GivesAs s r.agent r.key.at x → IsGiven q r.key.at x m
   pub next : words.received r ≡ true → is_fifo q.settings.kind ≡ true → (n : ℕ) (one : Message) → r.message ≡ Some (id_of q n) → numbered n q.records ≡ Some one → IsNext past q r n one
   pub timed : words.received r ≡ true → (n : ℕ) (one : Message) → r.message ≡ Some (id_of q n) → numbered n p.records ≡ Some one → IsTimed s past q r one
   pub repeats : words.is_repeat r.answer ≡ true → RepeatsEntry s q r
   pub sends : (words.is_send r.kind && words.comes r) ≡ true → (a : ActorSettings) → slice_get s.actors (r.agent - length s.queues) ≡ Some a → IsSender a.role → (x : Given) × GivesAs s r.agent r.key.at x × (r.detail ≡ details.Digest (md5 x.body))
-  pub arrives : words.comes r ≡ true → words.is_send r.kind ≡ false → is_actor_of s r.agent ≡ true → (m : Message) → numbered q.arrivals p.records ≡ Some m → Waits r.key.at q.settings.delay m
+  pub brought : words.comes r ≡ true → words.is_send r.kind ≡ false → (m : Message) → numbered q.arrivals p.records ≡ Some m → IsBrought s past q r m
+  pub ends : 0 < q.settings.retention → (is_deleted r.answer || is_expired r.answer) ≡ true → (n : ℕ) (one : Message) → r.message ≡ Some (id_of q n) → numbered n q.records ≡ Some one → IsEnd past q r n one
   pub enters : (words.is_send r.kind && words.comes r) ≡ true → (e : Entry) → In p.entries e → e.number ≡ q.arrivals → HasKey s q r e
 
--- of a row by which nothing is sent, received or repeated there is nothing to say
-pub of_none : (s : Scenario) (past : List Row) (q : Queue) (r : Row) (p : Queue) → words.comes r ≡ false → words.received r ≡ false → words.is_repeat r.answer ≡ false → IsBehind s past q r p
-of_none s past q r p n b c =
+-- of a row by which nothing is sent, received, repeated or ended there is nothing to say
+pub of_end : (s : Scenario) (past : List Row) (q : Queue) (r : Row) (p : Queue) → words.comes r ≡ false → words.received r ≡ false → words.is_repeat r.answer ≡ false → (0 < q.settings.retention → (is_deleted r.answer || is_expired r.answer) ≡ true → (n : ℕ) (one : Message) → r.message ≡ Some (id_of q n) → numbered n q.records ≡ Some one → IsEnd past q r n one) → IsBehind s past q r p
+of_end s past q r p n b c d =
     let a : (words.is_send r.kind && words.comes r) ≡ false = ap (λ x. words.is_send r.kind && x) n ∙ and-false (words.is_send r.kind) in
-    record { arrives = λ e. absurd (true≢false (sym e ∙ n)); sends = λ e. absurd (true≢false (sym e ∙ a)); enters = λ e. absurd (true≢false (sym e ∙ a)); repeats = λ e. absurd (true≢false (sym e ∙ c)); given = λ e m h k x i. absurd (true≢false (sym e ∙ a)); next = λ e f n one g h. absurd (true≢false (sym e ∙ b)); timed = λ e n one g h. absurd (true≢false (sym e ∙ b)) }
+    record { brought = λ e. absurd (true≢false (sym e ∙ n)); sends = λ e. absurd (true≢false (sym e ∙ a)); enters = λ e. absurd (true≢false (sym e ∙ a)); repeats = λ e. absurd (true≢false (sym e ∙ c)); ends = d; given = λ e m h k x i. absurd (true≢false (sym e ∙ a)); next = λ e f n one g h. absurd (true≢false (sym e ∙ b)); timed = λ e n one g h. absurd (true≢false (sym e ∙ b)) }
 
-pub tells_none : (s : Scenario) (past : List Row) (q : Queue) (r : Row) (p : Queue) (x y z : Bool) → Tells r false false x y z → words.is_repeat r.answer ≡ false → IsBehind s past q r p
-tells_none s past q r p x y z t n = of_none s past q r p t.comes_so t.received_so n
+pub of_none : (s : Scenario) (past : List Row) (q : Queue) (r : Row) (p : Queue) → words.comes r ≡ false → words.received r ≡ false → words.is_repeat r.answer ≡ false → (is_deleted r.answer || is_expired r.answer) ≡ false → IsBehind s past q r p
+of_none s past q r p a b c d = of_end s past q r p a b c (λ l e. absurd (true≢false (sym e ∙ d)))
+
+pub of_one : (s : Scenario) (past : List Row) (q : Queue) (r : Row) (p : Queue) (n : ℕ) (m : Message) → words.comes r ≡ false → words.received r ≡ false → words.is_repeat r.answer ≡ false → r.message ≡ Some (id_of q n) → numbered n q.records ≡ Some m → (0 < q.settings.retention → IsEnd past q r n m) → IsBehind s past q r p
+of_one s past q r p n m a b c f g w =
+    of_end s past q r p a b c
+    (λ l e k x i j.
+    let both : Some (id_of q n) ≡ Some (id_of q k) = sym f ∙ i in
+    let ids : id_of q n ≡ id_of q k = cc in
+    let same : n ≡ k = ap (λ (y : MessageId). y.number) ids in
+    let is : m ≡ x = let both : Some m ≡ Some x = sym g ∙ ap (λ y. numbered y q.records) same ∙ j in cc in
+    subst (λ y. IsEnd past q r y x) same (subst (IsEnd past q r n) is (w l)))
+
+-- only what leaves is deleted or expires
+pub not_ended : (r : Row) → words.leaves r ≡ false → (is_deleted r.answer || is_expired r.answer) ≡ false
+not_ended r l = (or_parts (is_deleted r.answer || is_expired r.answer) (words.is_redrive r.kind) (or_parts (is_deleted r.answer || is_expired r.answer || words.is_redrive r.kind) (words.is_move r.kind) l).0).0
+
+pub tells_none : (s : Scenario) (past : List Row) (q : Queue) (r : Row) (p : Queue) → Tells r false false false false false → words.is_repeat r.answer ≡ false → IsBehind s past q r p
+tells_none s past q r p t n = of_none s past q r p t.comes_so t.received_so n (not_ended r t.leaves_so)
 
 -- rows one after another, behind the rows of the run so far
 abbrev pub Chain : Scenario → List Row → Key → Queue → List Row → Queue → Type 0
@@ -299,10 +390,6 @@ Chain s past key q (r ∷ rs) p = (x : Queue) × Move key q r x × IsBehind s pa
 -- a site's actors and tasks, and the polls that wait there
 abbrev pub actors_of : Core → List Actor × List Poll × List Task
 actors_of c = (c.actors, c.polls, c.tasks)
-
--- an actor sends nothing but forwards
-abbrev pub FitsSender : Scenario → Outbound → Type 0
-FitsSender s o = is_actor_of s o.sender ≡ true → IsForward o.load
 
 -- the messages of a queue are in the order of their numbers, and these and those of its entries were all given out
 pub record IsStocked (q : Queue) : Type 0 where
@@ -389,15 +476,39 @@ chain_append s past key (r ∷ rs) ss q x p (y, m, g, c) d =
 pub one_move : (s : Scenario) (past : List Row) (key : Key) (q : Queue) (r : Row) (p : Queue) → Move key q r p → IsBehind s past q r p → Chain s past key q (r ∷ []) p
 one_move s past key q r p m g = (p, m, g, refl)
 
--- only what is received is told so
-pub received_by : (key : Key) (q : Queue) (r : Row) (p : Queue) → Does key q r p → words.received r ≡ true → Receives key q r p
-received_by key q r p (receives d) t = d
-received_by key q r p (stays d) t = absurd (true≢false (sym t ∙ d.tells.received_so))
-received_by key q r p (comes d) t = absurd (true≢false (sym t ∙ d.tells.received_so))
-received_by key q r p (changes d) t = absurd (true≢false (sym t ∙ d.tells.received_so))
-received_by key q r p (releases d) t = absurd (true≢false (sym t ∙ d.tells.received_so))
-received_by key q r p (redrives d) t = absurd (true≢false (sym t ∙ d.tells.received_so))
-received_by key q r p (ends d) t = absurd (true≢false (sym t ∙ d.tells.received_so))
+-- a row that tells of a message that comes, is received or has its timeout changed is one by which this happens
+pub record IsAsTold (key : Key) (q : Queue) (r : Row) (p : Queue) : Type 0 where
+  pub comes : words.comes r ≡ true → Comes key q r p
+  pub receives : words.received r ≡ true → Receives key q r p
+  pub changes : words.changed r ≡ true → Changes key q r p
+
+never : {A : Type 0} (b : Bool) → b ≡ false → b ≡ true → A
+never b f t = absurd (true≢false (sym t ∙ f))
+
+pub as_told : (key : Key) (q : Queue) (r : Row) (p : Queue) → Does key q r p → IsAsTold key q r p
+as_told key q r p (comes d) = record { comes = λ t. d; receives = never (words.received r) d.tells.received_so; changes = never (words.changed r) d.tells.changed_so }
+as_told key q r p (receives d) = record { comes = never (words.comes r) d.tells.comes_so; receives = λ t. d; changes = never (words.changed r) d.tells.changed_so }
+as_told key q r p (changes d) = record { comes = never (words.comes r) d.tells.comes_so; receives = never (words.received r) d.tells.received_so; changes = λ t. d }
+as_told key q r p (stays d) = record { comes = never (words.comes r) d.tells.comes_so; receives = never (words.received r) d.tells.received_so; changes = never (words.changed r) d.tells.changed_so }
+as_told key q r p (releases d) = record { comes = never (words.comes r) d.tells.comes_so; receives = never (words.received r) d.tells.received_so; changes = never (words.changed r) d.tells.changed_so }
+as_told key q r p (redrives d) = record { comes = never (words.comes r) d.tells.comes_so; receives = never (words.received r) d.tells.received_so; changes = never (words.changed r) d.tells.changed_so }
+as_told key q r p (ends d) = record { comes = never (words.comes r) d.tells.comes_so; receives = never (words.received r) d.tells.received_so; changes = never (words.changed r) d.tells.changed_so }
+
+-- what a message keeps as it is received, as its timeout changes, and as it comes back
+pub record Survives (key : Key) (P : Message → Type 0) : Type 0 where
+  pub receives : (t : ℕ) (m : Message) → P m → P (received key.at t m)
+  pub changes : (t : ℕ) (m : Message) → P m → P (in_flight_until (key.at + 1000 * t) m)
+  pub comes_back : (m : Message) → P m → P (visible_again m)
+
+-- each message of a queue has it after a row, if each had it before and what comes has it
+pub does_all : (key : Key) (q : Queue) (r : Row) (p : Queue) (P : Message → Type 0) → Survives key P → ((d : Comes key q r p) → P d.one) → Does key q r p → All P q.records → All P p.records
+does_all key q r p P s c (stays d) h = subst (λ (y : Queue). All P y.records) d.same h
+does_all key q r p P s c (comes d) h = subst (λ (y : Queue). All P y.records) d.after (All-push P q.records d.one h (c d))
+does_all key q r p P s c (receives d) h = subst (λ (y : Queue). All P y.records) d.after (all_changed (has_number d.number) P (received key.at d.timeout) (s.receives d.timeout) q.records h)
+does_all key q r p P s c (changes d) h = subst (λ (y : Queue). All P y.records) d.after (all_changed (has_number d.number) P (in_flight_until (key.at + 1000 * d.timeout)) (s.changes d.timeout) q.records h)
+does_all key q r p P s c (releases d) h = subst (λ (y : Queue). All P y.records) d.after (all_changed (has_number d.number) P visible_again s.comes_back q.records h)
+does_all key q r p P s c (redrives d) h = subst (λ (y : Queue). All P y.records) d.after (all_without (has_number d.number) P q.records h)
+does_all key q r p P s c (ends d) h = subst (λ (y : Queue). All P y.records) d.after (all_without (has_number d.number) P q.records h)
 
 -- a row names a message of its own queue alone
 own_named : (q : Queue) (r : Row) (n : ℕ) (m : MessageId) → r.message ≡ Some (id_of q n) → r.message ≡ Some m → m.site ≡ q.site

@@ -1,14 +1,16 @@
 -- Rows that name a message, and what one more row makes of its flight.
-use Rattle.std.specs.Prelude.{Bool, List, None, Option, Some, [], cond, false, find, if◌then◌else◌, not, true, ◌&&◌, ◌++◌, ◌==◌, ◌∷◌, ◌≡◌, ◌≢◌, ◌||◌}
-use Rattle.std.proofs.Common.{ap, inl, inr, refl, ◌∙◌}
+use Rattle.std.specs.Prelude.{Bool, List, None, Option, Some, [], cond, false, find, if◌then◌else◌, not, true, ◌&&◌, ◌++◌, ◌==◌, ◌∷◌, ◌≡◌, ◌≢◌, ◌||◌, All, slice_get, ℕ}
+use Rattle.std.proofs.Common.{ap, inl, inr, refl, ◌∙◌, sym, subst}
 use Rattle.std.proofs.Math.Bool.{and-false}
 use Rattle.std.proofs.lemmas.Bool.{eq-eqb, ne_eqb}
 use Rattle.std.proofs.lemmas.List.Sums.{fold-append}
 use Rattle.sqs_message.specs.declared.ids.MessageId.{MessageId}
 use Rattle.sqs_message.specs.declared.row.Row.{Row}
-use Rattle.sqs_model.specs.Accounts.{same_id}
+use Rattle.sqs_model.specs.Accounts.{same_id, origin_in}
 use Rattle.sqs_model.proofs.Members.{In}
-use Rattle.sqs_laws.specs.Words.{changed, flight, is_release, leaves, names, received}
+use Rattle.sqs_laws.specs.Words.{changed, flight, is_release, leaves, names, received, last_naming, origin_of, comes}
+use Rattle.std.proofs.lemmas.List.Elements.{All-get_or}
+use Rattle.std.proofs.lemmas.Option.{get_or_from_slice_get, slice_get_within}
 
 -- a row that names one message names no other
 pub names_id : (m i : MessageId) (r : Row) → r.message ≡ Some i → names m r ≡ (m.site == i.site && m.number == i.number)
@@ -19,6 +21,35 @@ names_same m r e = names_id m m r e ∙ (rw (eq-eqb m.site m.site refl, eq-eqb m
 
 pub names_other : (m i : MessageId) (r : Row) → r.message ≡ Some i → m.number ≢ i.number → names m r ≡ false
 names_other m i r e d = names_id m i r e ∙ ap (λ b. (m.site == i.site) && b) (ne_eqb m.number i.number d) ∙ and-false (m.site == i.site)
+
+-- the last row of some that names a message, with one more row
+pub last_as : (such : Row → Bool) (m : MessageId) (rows : List Row) (r : Row) (b : Bool) → (such r && names m r) ≡ b → last_naming such m (rows ++ r ∷ []) ≡ (if b then Some r else last_naming such m rows)
+last_as such m rows r b e =
+    fold-append (λ t x. if such x && names m x then Some x else t) None rows (r ∷ [])
+    ∙ ap (λ c. if c then Some r else last_naming such m rows) e
+
+-- the origin of a message with one more row
+pub origin_as : (m : MessageId) (rows : List Row) (r : Row) (b : Bool) → (comes r && names m r) ≡ b → origin_of m (rows ++ r ∷ []) ≡ (if b then origin_in r (Some m) else origin_of m rows)
+origin_as m rows r b e =
+    fold-append (λ o x. if comes x && names m x then origin_in x (Some m) else o) None rows (r ∷ [])
+    ∙ ap (λ c. if c then origin_in r (Some m) else origin_of m rows) e
+
+pub same_origin : (m : MessageId) (rows : List Row) (r : Row) → comes r ≡ false → origin_of m (rows ++ r ∷ []) ≡ origin_of m rows
+same_origin m rows r e = origin_as m rows r false (rw e refl)
+
+-- a row names no message of another queue
+abbrev pub NamesOwn : Row → Type 0
+NamesOwn r = (m : MessageId) → r.message ≡ Some m → m.site ≡ r.queue
+
+-- a row of another queue names no message of this one
+names_apart_by : (m : MessageId) (r : Row) (o : Option MessageId) → r.message ≡ o → NamesOwn r → r.queue ≢ m.site → names m r ≡ false
+names_apart_by m r None e own d = ap (same_id (Some m)) e
+names_apart_by m r (Some i) e own d =
+    let far : m.site ≢ i.site = λ s. d (sym (own i e) ∙ sym s) in
+    names_id m i r e ∙ ap (λ b. b && (m.number == i.number)) (ne_eqb m.site i.site far)
+
+pub names_apart : (m : MessageId) (r : Row) → NamesOwn r → r.queue ≢ m.site → names m r ≡ false
+names_apart m r own d = names_apart_by m r r.message refl own d
 
 -- the flight of a message with one more row
 abbrev pub flight_on : Bool → Bool → Bool → Option Row → Row → Option Row
@@ -42,3 +73,7 @@ found_in p (x ∷ xs) y e =
       | true ↦ λ f. inl cc
       | false ↦ λ f. inr (found_in p xs y f)
     ] e
+
+-- what holds of all holds of the one at a place
+pub at_place : {A : Type 0} (P : A → Type 0) (xs : List A) (n : ℕ) (x : A) → All P xs → slice_get xs n ≡ Some x → P x
+at_place P xs n x a e = subst P (get_or_from_slice_get xs n x x e) (All-get_or P xs n x (slice_get_within xs n x e) a)

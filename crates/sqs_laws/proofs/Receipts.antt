@@ -36,7 +36,7 @@ use Rattle.sqs_laws.proofs.End as end
 use Rattle.sqs_laws.proofs.Flights as fly
 use Rattle.sqs_laws.proofs.Letters as letter
 use Rattle.sqs_laws.proofs.Slots.{of_there}
-use Rattle.sqs_laws.proofs.Moves.{Asks, AsksChange, AsksDelete, changed_answer, Does, IsStocked, Move, changes, comes, deleted_answer, ends, receives, redrives, releases, stays, received_by}
+use Rattle.sqs_laws.proofs.Moves.{Asks, AsksChange, AsksDelete, changed_answer, Does, IsStocked, Move, deleted_answer, as_told}
 use Rattle.sqs_laws.proofs.Worlds.{RowLaw, both, every_row_by}
 use Rattle.sqs_laws.proofs.Flights.{flies_of, rests_of}
 
@@ -100,7 +100,7 @@ module _ (s : Scenario) (v : All IsQueueSettings s.queues) where
     -- a receive
     made_by : Does key q r p → (m : MessageId) → r.message ≡ Some m → words.received r ≡ true → r.receipt ≡ receipts.Made (record { site = r.queue; number = m.number; count = times m rows + 1 })
     made_by y m e t =
-        let x = received_by key q r p y t in
+        let x = (as_told key q r p y).receives t in
         let i : id_of q x.number ≡ m = let named : Some (id_of q x.number) ≡ Some m = sym x.names.message ∙ e in cc in
         let before : times (id_of q x.number) rows ≡ x.one.receives = (of_there s (letter.letter_law s v) rows q h.1.0 x.number x.one x.names.there).0 in
         x.receipt

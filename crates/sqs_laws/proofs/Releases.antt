@@ -1,7 +1,7 @@
 -- Releases: a message in flight comes back exactly at the end of the timeout of its last receive or change.
-use Rattle.std.specs.Prelude.{All, Bool, List, None, Option, Some, [], false, nat_lt, slice_get, true, ℕ, ◌*◌, ◌+◌, ◌++◌, ◌∷◌, ◌≡◌, ◌≤◌, ◌||◌}
+use Rattle.std.specs.Prelude.{All, Bool, List, None, Option, Some, [], false, nat_lt, slice_get, true, ℕ, ◌&&◌, ◌*◌, ◌+◌, ◌++◌, ◌∷◌, ◌≡◌, ◌≤◌, ◌||◌}
 use Rattle.std.proofs.Common.{ap, arith, inl, inr, refl, subst, sym, true≢false, ◌∙◌, true≢false}
-use Rattle.std.proofs.lemmas.Bool.{or_parts}
+use Rattle.std.proofs.Math.Bool.{and-false}
 use Rattle.std.proofs.lemmas.List.{append-nil, append_assoc}
 use Rattle.sim_clock.specs.declared.key.Key.{Key}
 use Rattle.sqs_message.specs.declared.calls.ScriptCall.{ScriptCall}
@@ -12,24 +12,48 @@ use Rattle.sqs_message.specs.declared.row.Row.{Row}
 use Rattle.sqs_redrive.specs.declared.settings.QueueSettings.{QueueSettings}
 use Rattle.sqs_model.specs.Calls.{in_flight_until}
 use Rattle.sqs_model.specs.Progress.{IsSoundScenario}
-use Rattle.sqs_model.specs.Queue.{Queue, id_of, numbered}
+use Rattle.sqs_model.specs.Queue.{Queue, id_of, is_in_flight, numbered}
 use Rattle.sqs_model.specs.Receive.{received}
 use Rattle.sqs_model.specs.Run.{IsRunOf, Run}
 use Rattle.sqs_model.specs.Scenario.{Scenario}
 use Rattle.sqs_model.proofs.Members.{of_all}
 use Rattle.sqs_laws.specs.Laws.{EndsAt, Releases as Law}
 use Rattle.sqs_laws.specs.Sends.{MayGiveAt, milliseconds_or}
-use Rattle.sqs_laws.specs.Words.{EachRow, flight, flying, is_release, is_redrive, names}
+use Rattle.sqs_laws.specs.Words.{EachRow, flight, flying, is_release, is_redrive, names, received_by}
 use Rattle.sqs_laws.specs.Words as words
 use Rattle.sqs_laws.proofs.Lasts.{IsLast, last_of}
 use Rattle.sqs_laws.proofs.Moments.{timely_at}
-use Rattle.sqs_laws.proofs.Moves.{Does, IsAskedFor, IsCalled, IsStocked, Move, Names, Tells, asks_as, changes, comes, ends, receives, redrives, releases, stays}
+use Rattle.sqs_laws.proofs.Moves.{Does, IsAskedFor, IsCalled, IsStocked, Move, Names, Tells, asks_as, changes, comes, ends, receives, redrives, releases, stays, waits_rest, as_told}
 use Rattle.sqs_laws.proofs.Flights.{flight_now, flight_over, flight_quiet}
-use Rattle.sqs_laws.proofs.Naming.{flight_on, flight_push, flight_stays}
+use Rattle.sqs_laws.proofs.Naming.{flight_stays}
 use Rattle.sqs_laws.proofs.Order.{rows_in_time}
-use Rattle.sqs_laws.proofs.Said.{names_same, none_leaves}
+use Rattle.sqs_laws.proofs.Said.{last_as, names_same, none_leaves}
 use Rattle.sqs_laws.proofs.Slots.{Holds, MessageLaw, Slot, by_messages, gone, of_there, slot_of, there, unborn}
 use Rattle.sqs_laws.proofs.Worlds.{IsNow, every_row_by}
+
+-- the last receive of a message that is in flight
+abbrev WasReceived : List Row → MessageId → Slot → Type 0
+WasReceived rows i (there m) = is_in_flight m ≡ true → (f : Row) × (received_by i rows ≡ Some f) × (f.key.at ≡ m.received)
+WasReceived rows i x = Unit {0}
+
+received_still : (rows : List Row) (r : Row) (i : MessageId) (x : Slot) → (words.received r && names i r) ≡ false → WasReceived rows i x → WasReceived (rows ++ r ∷ []) i x
+received_still rows r i (there m) e h = λ t. let x = h t in (x.0, last_as words.received i rows r false e ∙ x.1, x.2)
+received_still rows r i gone e h = tt
+received_still rows r i unborn e h = tt
+
+abbrev receipt_law : (s : Scenario) → MessageLaw s
+receipt_law s =
+    record {
+      Said = λ q rows i x. WasReceived rows i x;
+      opens = λ q i. tt;
+      other = λ q rows r i x e h. received_still rows r i x (ap (λ b. words.received r && b) e ∙ and-false (words.received r)) h;
+      stays = λ rows key q r p a t n e x y h. received_still rows r (id_of q n) x (rw t.received_so refl) h;
+      comes = λ rows key q r p a d e h t. absurd (true≢false (sym t ∙ waits_rest key.at d.delay d.one d.waits));
+      receives = λ rows key q r p a d e h t. (r, last_as words.received (id_of q d.number) rows r true (rw (d.tells.received_so, names_same (id_of q d.number) r d.names.message) refl), ap (λ (y : Key). y.at) a.at_key);
+      changes = λ rows key q r p a d h t. received_still rows r (id_of q d.number) (there d.one) (rw d.tells.received_so refl) h d.flies;
+      releases = λ rows key q r p a d h t. cc;
+      leaves = λ rows key q r p a t one n d h. tt;
+    }
 
 module _ (s : Scenario) where
   -- a receive or a change among some rows, behind those before it, and when its timeout ends
@@ -83,7 +107,7 @@ module _ (s : Scenario) where
         Said = λ q rows i x. IsSaid rows i x;
         opens = λ q i. refl;
         other = λ q rows r i x e h. kept rows r i x (flight_stays i rows r e) h;
-        stays = λ q rows r i x t e h. kept rows r i x (flight_quiet rows r i false t) h;
+        stays = λ rows key q r p a t n e x y h. kept rows r (id_of q n) x (flight_quiet rows r (id_of q n) false t) h;
         comes = λ rows key q r p a d e h f g. let none : flight (id_of q q.arrivals) (rows ++ r ∷ []) ≡ None = flight_quiet rows r (id_of q q.arrivals) true d.tells ∙ h in cc;
         receives = λ rows key q r p a d e h.
             let x = a.behind.timed d.tells.received_so d.number (received key.at d.timeout d.one) d.names.message e in
@@ -93,7 +117,7 @@ module _ (s : Scenario) where
             let end : ℕ = key.at + 1000 * d.timeout in
             begins rows q r d.number end (in_flight_until end d.one) a.at_site a.settings d.names.message (rw (d.tells.received_so, d.tells.changed_so) refl) refl (λ t. absurd (true≢false (sym t ∙ d.tells.received_so))) (λ _. (d.timeout, d.told, omega (arith, now)));
         releases = λ rows key q r p a d h f g. let none : flight (id_of q d.number) (rows ++ r ∷ []) ≡ None = flight_over rows r (id_of q d.number) d.names.message (rw (d.tells.received_so, d.tells.changed_so) refl) (rw d.tells.released_so refl) in cc;
-        leaves = λ q rows r i one t e h. flight_over rows r i e (rw (t.received_so, t.changed_so) refl) (rw (t.released_so, t.leaves_so) refl);
+        leaves = λ rows key q r p a t one n d h. flight_over rows r (id_of q n) d.message (rw (t.received_so, t.changed_so) refl) (rw (t.released_so, t.leaves_so) refl);
       }
 
   abbrev pub Says : List Row → Queue → Type 0
@@ -110,7 +134,7 @@ module _ (s : Scenario) where
     pub ends : (m : MessageId) → r.message ≡ Some m → (is_release r.kind || is_redrive r.kind) ≡ true → (f : Row) → flight m before ≡ Some f → Began before f r.key.at
     pub goes_on : (m : MessageId) (f : Row) → m.site ≡ r.queue → flight m before ≡ Some f → (end : ℕ) × Began before f end × (r.key.at ≤ end)
 
-  module _ (rows : List Row) (key : Key) (q : Queue) (r : Row) (p : Queue) (now : IsNow s key q) (d : Move key q r p) (k : IsStocked q) (h : Says rows q) where
+  module _ (rows : List Row) (key : Key) (q : Queue) (r : Row) (p : Queue) (now : IsNow s rows key q) (d : Move key q r p) (k : IsStocked q) (h : Says rows q) where
     at_now : r.key.at ≡ key.at
     at_now = ap (λ (y : Key). y.at) d.at_key
 
@@ -181,6 +205,15 @@ module _ (s : Scenario) where
       record {
         ends = λ before r after e m i t f g. ends_at x.rows order before (r ∷ after) f r.key.at e ((each before r after e).ends m i t f g);
         goes_on = λ before r after e m f i g. let y = (each before r after e).goes_on m f i g in (y.0, ends_at x.rows order before (r ∷ after) f y.0 e y.1, y.2);
+        longest =
+            every_row_by s (by_messages s (receipt_law s)) _
+            (λ rows key q r p now d g k h j m e t seconds f.
+            let x = (as_told key q r p d.does).changes t in
+            let is : id_of q x.number ≡ m = let named : Some (id_of q x.number) ≡ Some m = sym x.names.message ∙ e in cc in
+            let same : x.timeout ≡ seconds = let both : details.Timeout x.timeout ≡ details.Timeout seconds = sym x.told ∙ f in cc in
+            let z = of_there s (receipt_law s) rows q h x.number x.one x.names.there x.flies in
+            let at : r.key.at ≡ key.at = ap (λ (y : Key). y.at) d.at_key in
+            (z.0, subst (λ i. received_by i rows ≡ Some z.0) is z.1, omega (arith, x.limit, z.2, same, at))) x is;
         at_last = λ m q f e g.
             let y : IsLast s (by_messages s flown) x m.site = last_of s (by_messages s flown) x is m.site q e in
             let w : Queue = y.site.core.queue in

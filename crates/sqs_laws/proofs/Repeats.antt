@@ -1,10 +1,8 @@
 -- Repeats: a row that repeats a message names one that came to its FIFO queue less than 5 minutes before.
-use Rattle.std.specs.Prelude.{Bool, List, None, Some, [], false, if◌then◌else◌, slice_get, true, ◌&&◌, ◌+◌, ◌++◌, ◌<◌, ◌∷◌, ◌≡◌, ◌≢◌}
+use Rattle.std.specs.Prelude.{Bool, List, None, Some, [], false, slice_get, true, ◌&&◌, ◌+◌, ◌++◌, ◌<◌, ◌∷◌, ◌≡◌, ◌≢◌}
 use Rattle.std.proofs.Common.{ap, arith, inl, inr, refl, subst, sym, ◌∙◌}
 use Rattle.std.proofs.Math.Bool.{and-false}
-use Rattle.std.proofs.lemmas.List.Sums.{fold-append}
 use Rattle.sim_clock.specs.declared.key.Key.{Key}
-use Rattle.sqs_message.specs.declared.ids.MessageId.{MessageId}
 use Rattle.sqs_message.specs.declared.message.Message.{Message}
 use Rattle.sqs_message.specs.declared.row.Row.{Row}
 use Rattle.sqs_redrive.specs.declared.settings.QueueSettings.{QueueSettings}
@@ -20,14 +18,9 @@ use Rattle.sqs_laws.specs.Laws.{Repeats, RepeatsRecent, fifo_at, is_fifo}
 use Rattle.sqs_laws.specs.Words.{EachRow, came_by, is_send, names}
 use Rattle.sqs_laws.specs.Words as words
 use Rattle.sqs_laws.proofs.Moves.{Comes, Does, HasKey, IsEntered, IsBehind, IsStocked, Move, RepeatsEntry, changes, comes, ends, receives, redrives, releases, stays}
-use Rattle.sqs_laws.proofs.Said.{names_apart, names_other, names_same}
-use Rattle.sqs_laws.proofs.Worlds.{NamesOwn, RowLaw, every_row_by}
-
--- the row by which a message came, with one more row
-pub came_as : (m : MessageId) (rows : List Row) (r : Row) (b : Bool) → (words.comes r && names m r) ≡ b → came_by m (rows ++ r ∷ []) ≡ (if b then Some r else came_by m rows)
-came_as m rows r b e =
-    fold-append (λ t x. if words.comes x && names m x then Some x else t) None rows (r ∷ [])
-    ∙ ap (λ c. if c then Some r else came_by m rows) e
+use Rattle.sqs_laws.proofs.Said.{names_apart, names_other, names_same, last_as}
+use Rattle.sqs_laws.proofs.Worlds.{RowLaw, every_row_by}
+use Rattle.sqs_laws.proofs.Naming.{NamesOwn}
 
 -- the row of an entry: that by which its message came, 5 minutes before its end
 record Entered (s : Scenario) (rows : List Row) (q : Queue) (e : Entry) : Type 0 where
@@ -43,7 +36,7 @@ record Says (s : Scenario) (rows : List Row) (q : Queue) : Type 0 where
 
 module _ (s : Scenario) (key : Key) (rows : List Row) (q : Queue) (r : Row) (p : Queue) (k : IsStocked q) (at_key : r.key ≡ key) (o : IsBehind s rows q r p) (h : Says s rows q) where
   other : (e : Entry) → (words.comes r && names (id_of q e.number) r) ≡ false → Entered s rows q e → Entered s (rows ++ r ∷ []) q e
-  other e n x = record { by = x.by; came = came_as (id_of q e.number) rows r false n ∙ x.came; ends = x.ends; same = x.same }
+  other e n x = record { by = x.by; came = last_as words.comes (id_of q e.number) rows r false n ∙ x.came; ends = x.ends; same = x.same }
 
   still : words.comes r ≡ false → Says s (rows ++ r ∷ []) q
   still c = record { settings = h.settings; entered = λ e i. other e (rw c refl) (h.entered e i) }
@@ -59,7 +52,7 @@ module _ (s : Scenario) (key : Key) (rows : List Row) (q : Queue) (r : Row) (p :
       let named : r.message ≡ Some (id_of q e.number) = d.message ∙ ap (λ n. Some (id_of q n)) (sym i.0) in
       record {
         by = r;
-        came = came_as (id_of q e.number) rows r true (rw (d.tells.comes_so, names_same (id_of q e.number) r named) refl);
+        came = last_as words.comes (id_of q e.number) rows r true (rw (d.tells.comes_so, names_same (id_of q e.number) r named) refl);
         ends = ap (λ (x : Key). x.at + deduplication_interval) at_key ∙ sym i.1;
         same = λ t. o.enters (rw (t, d.tells.comes_so) refl) e l i.0;
       }
@@ -81,7 +74,7 @@ apart s rows r q d own h =
       settings = h.settings;
       entered = λ e i.
           let x : Entered s rows q e = h.entered e i in
-          record { by = x.by; came = came_as (id_of q e.number) rows r false (ap (λ b. words.comes r && b) (names_apart (id_of q e.number) r own d) ∙ and-false (words.comes r)) ∙ x.came; ends = x.ends; same = x.same };
+          record { by = x.by; came = last_as words.comes (id_of q e.number) rows r false (ap (λ b. words.comes r && b) (names_apart (id_of q e.number) r own d) ∙ and-false (words.comes r)) ∙ x.came; ends = x.ends; same = x.same };
     }
 
 -- the law that each entry of a queue was made by a row

@@ -1,10 +1,10 @@
 -- The rows of each other call, and of what is due, are a chain of single moves.
 use Rattle.std.specs.Str.{bytes_eq}
-use Rattle.std.specs.Prelude.{All, Bool, slice_get, Err, List, None, Ok, Option, Result, Some, [], false, get_or, if◌then◌else◌, length, nat_lt, take, true, ℕ, ◌&&◌, ◌*◌, ◌+◌, ◌++◌, ◌<◌, ◌==◌, ◌∷◌, ◌≡◌, ◌≢◌, ◌||◌, ◌-◌, ◌≤◌, ◌⊎◌}
+use Rattle.std.specs.Prelude.{All, Bool, Err, List, None, Ok, Option, Result, Some, [], false, get_or, if◌then◌else◌, length, nat_lt, take, true, ℕ, ◌&&◌, ◌*◌, ◌+◌, ◌++◌, ◌<◌, ◌==◌, ◌∷◌, ◌≡◌, ◌≢◌, ◌||◌, ◌-◌, ◌≤◌, not, nat_le, slice_get}
 use Rattle.std.proofs.Common.{ap, arith, inl, inr, refl, subst, sym, true≢false, ◌∙◌}
 use Rattle.std.proofs.lemmas.Bool.{and_parts, eqb-true, leb-true}
 use Rattle.std.proofs.lemmas.Bool.Decides.{nat_tests}
-use Rattle.std.proofs.lemmas.List.Elements.{All-cons, All-filter, All-head, All-nil, All-push, All-tail, All-take}
+use Rattle.std.proofs.lemmas.List.Elements.{All-cons, All-filter, All-head, All-nil, All-push, All-tail, All-take, All-weaker}
 use Rattle.sim_clock.specs.declared.key.Key.{Key}
 use Rattle.sim_clock.specs.declared.refusal.Refusal.{Refusal}
 use Rattle.sim_clock.specs.declared.refusal.Refusal.TheVariants as refusals
@@ -21,7 +21,7 @@ use Rattle.sqs_message.specs.declared.row.RowReceipt.TheVariants as receipts
 use Rattle.sqs_message.specs.Ids.{id_text, read_receipt}
 use Rattle.sqs_redrive.specs.declared.answers.Deleted.{Deleted}
 use Rattle.sqs_redrive.specs.declared.answers.Sent.{Sent}
-use Rattle.sqs_redrive.specs.declared.answers.Sent.TheVariants.{New, Repeat}
+use Rattle.sqs_redrive.specs.declared.answers.Sent.TheVariants.{New}
 use Rattle.sqs_redrive.specs.declared.settings.Kind.{Kind}
 use Rattle.sqs_redrive.specs.declared.settings.Kind.TheVariants.{Fifo, Standard}
 use Rattle.sqs_redrive.specs.declared.settings.Policy.{Policy}
@@ -32,19 +32,18 @@ use Rattle.sqs_redrive.specs.declared.transfers.Outbound.{Outbound}
 use Rattle.sqs_model.specs.Accounts.{is_deleted, is_expired, origin_in}
 use Rattle.sqs_model.specs.Acts.{change_answered, change_made, change_row, came_back, delete_done, delete_made, forwards_made, send_made, sends, serve_made}
 use Rattle.sqs_model.specs.Actor.{Actor}
-use Rattle.sqs_model.specs.Calls.{change, deduplication_id, delay_of, delete, in_flight_until, is_bad_delay, living, living_entries, new_message, returned, scope_of, send_unless, send_with, with_entry, with_message}
+use Rattle.sqs_model.specs.Calls.{change, change_found, may_be_given, deduplication_id, delay_of, delete, in_flight_until, is_bad_delay, living, living_entries, new_message, returned, scope_of, send_unless, send_with, with_entry, with_message}
 use Rattle.sqs_model.specs.Queue.{Entry, Queue, has_number, id_of, is_in_flight, is_visible, numbered, same_text, taken_out, with_change, with_records}
 use Rattle.sqs_model.specs.Return.{leaves, redrive_of, released, released_found, released_when, visible_again}
 use Rattle.std.specs.Cmp.Lexicographic.{bytes_decides}
 use Rattle.sqs_redrive.specs.declared.settings.Scope.TheVariants as scopes
-use Rattle.md5.specs.Md5.{md5}
-use Rattle.sqs_model.specs.declared.agents.ActorSettings.{ActorSettings}
 use Rattle.sqs_model.specs.Progress.{IsSoundRole}
 use Rattle.sqs_model.specs.Scenario.{Scenario}
+use Rattle.sqs_model.specs.Longest.{longest_flight, longest_timeout}
 use Rattle.sqs_model.specs.Texts.{same_text_decides}
 use Rattle.sqs_model.specs.Site.{Core, Effect, and_then, is_task, number_of, says, with_queue}
 use Rattle.sqs_model.specs.Arrive.{arrived, brought, enqueued_at, expired_found, forwarded, forwarded_group, is_too_old, sent_of, settled_when}
-use Rattle.sqs_model.specs.Step.{Moved, arrival_done, end_row, load_age, load_origin, handle_step, moves, one_sent, expiry_done, handle_expiry, release_done}
+use Rattle.sqs_model.specs.Step.{Moved, arrival_done, end_row, load_age, load_origin, handle_step, moves, one_sent, expiry_done, handle_expiry, release_done, arrival_row}
 use Rattle.sqs_model.specs.Available.{all_available, all_hosts}
 use Rattle.sqs_model.specs.Draw.{drawn_latency}
 use Rattle.sqs_model.specs.Task.{Taken, Task, destination, take_each, take_movable, taken_one}
@@ -54,20 +53,21 @@ use Rattle.sqs_redrive.specs.declared.answers.Rest.TheVariants.{Empty, More, NoS
 use Rattle.sqs_model.proofs.Chosen.{Stand, first_apart, first_stand}
 use Rattle.sqs_model.proofs.Numbered.{Apart, other_without}
 use Rattle.sqs_model.proofs.Answered.{change_by, delete_by}
-use Rattle.sqs_model.proofs.Branches.{either}
+use Rattle.sqs_model.proofs.Branches.{either, either_by}
 use Rattle.sqs_model.proofs.CallWalk.{IsNameless, TellsOfNone}
 use Rattle.sqs_model.proofs.Counts.{all_changed, changed_twice, find_all, find_picked, without_changed}
 use Rattle.sqs_model.proofs.Members.{In, all_in, in_append, of_all}
 use Rattle.sqs_model.proofs.SiteAccounts.{IsFound}
-use Rattle.sqs_laws.specs.Sends.{Given, GivesAs, IsSender, delay_given, key_given, milliseconds_or, scope_given}
-use Rattle.sqs_laws.specs.Laws.{is_actor_of, is_fifo}
+use Rattle.sqs_laws.specs.Sends.{Given, GivesAs, delay_given, key_given, milliseconds_or, scope_given}
+use Rattle.sqs_laws.specs.Laws.{is_fifo}
 use Rattle.sqs_laws.specs.Words as words
-use Rattle.sqs_laws.proofs.Calls.{Told, back_fits, back_told, found_old, one_back, own_changed, pushed_found, pushed_out, tells}
+use Rattle.sqs_laws.proofs.Calls.{Told, back_told, found_old, one_back, own_changed, pushed_out, tells, Returns}
 use Rattle.sqs_laws.proofs.Gives.{Gives}
 use Rattle.sqs_laws.proofs.Giving.{visible_available}
-use Rattle.sqs_laws.proofs.Naming.{found_in}
-use Rattle.sqs_model.proofs.Sending.{IsForward}
-use Rattle.sqs_laws.proofs.Moves.{FitsSender, HasKey, Asks, AsksChange, AsksDelete, Chain, IsEntered, IsGiven, IsNoReceipt, IsBehind, RepeatsEntry, changed_answer, deleted_answer, chain_keeps, Does, IsStocked, Keeps, Move, Stays, Tells, Waits, changes, chain_append, comes, ends, of_none, one_move, stays, actors_of, tells_none}
+use Rattle.sqs_laws.proofs.Naming.{found_in, last_as, names_same}
+use Rattle.sqs_laws.proofs.Moves.{FitsSender, HasKey, Asks, AsksChange, AsksDelete, Chain, IsEntered, IsGiven, IsNoReceipt, IsBehind, RepeatsEntry, changed_answer, deleted_answer, chain_keeps, Does, IsStocked, Keeps, Move, Stays, Tells, Waits, changes, chain_append, comes, ends, of_none, one_move, stays, actors_of, tells_none, AreTraced, IsBrought, IsMadeBy, of_one, OfGroup}
+use Rattle.sqs_laws.proofs.Traces.{chain_traces, pushed_found, group_later, traced_of}
+use Rattle.std.proofs.lemmas.List.{append_assoc}
 
 -- what a row of none tells
 abbrev SaysNothing : RowKind → RowAnswer → Type 0
@@ -115,14 +115,14 @@ quiet_move key c q r e i =
 
 pub nameless_none : (u : Scenario) (past : List Row) {key : Key} {c : Core} (q : Queue) (r : Row) → IsNameless key c r → IsBehind u past q r q
 nameless_none u past q r i =
-    let n : SaysNothing r.kind r.answer = says_nothing r.kind r.answer i.kind in tells_none u past q r q false false false (tells r false false false false false n.0 n.1 n.2 n.3 n.4) n.5
+    let n : SaysNothing r.kind r.answer = says_nothing r.kind r.answer i.kind in tells_none u past q r q (tells r false false false false false n.0 n.1 n.2 n.3 n.4) n.5
 
 module _ (u : Scenario) (past : List Row) (key : Key) where
   -- an effect whose rows are a chain from a site's queue, and which leaves its actors and polls
   pub record IsChain (c : Core) (e : Effect) : Type 0 where
     pub chain : Chain u past key c.queue e.rows e.core.queue
     pub actors : actors_of e.core ≡ actors_of c
-    pub sent : All (FitsSender u) e.sent
+    pub sent : All (FitsSender u (past ++ e.rows)) e.sent
 
   -- a row that names a message which came before, and changes nothing
   named_stays : (q : Queue) (r : Row) (n : ℕ) → r.message ≡ Some (id_of q n) → Tells r false false false false false → n < q.arrivals → (words.may_follow r ≡ false → IsFound (numbered n q.records)) → (words.is_gone r.answer ≡ true → numbered n q.records ≡ None) → Stays key q r q
@@ -136,7 +136,7 @@ module _ (u : Scenario) (past : List Row) (key : Key) where
       }
 
   one_row : (c d : Core) (r : Row) → r.key ≡ key → r.queue ≡ c.queue.site → actors_of d ≡ actors_of c → Asks key c.queue r r.kind → Does key c.queue r d.queue → IsBehind u past c.queue r d.queue → IsChain c (says d r)
-  one_row c d r k s a y h g = record { chain = one_move u past key c.queue r d.queue (record { at_key = k; at_site = s; asked = y; does = h }) g; actors = a; sent = All-nil (FitsSender u) }
+  one_row c d r k s a y h g = record { chain = one_move u past key c.queue r d.queue (record { at_key = k; at_site = s; asked = y; does = h }) g; actors = a; sent = All-nil (FitsSender u (past ++ _)) }
 
   -- services
   forwards_rows : (behind : List Row) (a : Actor) (c : Core) (id : MessageId) (os : List Outbound) → id.site ≡ c.queue.site → id.number < c.queue.arrivals → Chain u behind key c.queue (forwards_made key a id os c).rows (forwards_made key a id os c).core.queue
@@ -149,7 +149,7 @@ module _ (u : Scenario) (past : List Row) (key : Key) where
       asked = tt;
       does = stays (named_stays c.queue _ id.number (ap (λ s. Some (record { site = s; number = id.number })) e) (tells _ false false false false false refl refl refl refl refl) l (λ h. cc) (λ h. cc));
     },
-    of_none u behind c.queue _ c.queue refl refl refl,
+    of_none u behind c.queue _ c.queue refl refl refl refl,
     forwards_rows (behind ++ _ ∷ []) a c id os e l,
   )
 
@@ -161,10 +161,10 @@ module _ (u : Scenario) (past : List Row) (key : Key) where
   forwards_sent a c id [] = refl
   forwards_sent a c id (o ∷ os) = ap (λ xs. o ∷ xs) (forwards_sent a c id os)
 
-  pub serve_chain : (a : Actor) (c : Core) (id : MessageId) (r : Receipt) (failed : Bool) (os : List Outbound) → id.site ≡ c.queue.site → id.number < c.queue.arrivals → All (FitsSender u) os → IsChain c (serve_made key a c id r failed os).effect
+  pub serve_chain : (a : Actor) (c : Core) (id : MessageId) (r : Receipt) (failed : Bool) (os : List Outbound) → id.site ≡ c.queue.site → id.number < c.queue.arrivals → All (λ o. (rows : List Row) → FitsSender u rows o) os → IsChain c (serve_made key a c id r failed os).effect
   serve_chain a c id r true os e l f =
-      one_row c c _ refl refl refl tt (stays (named_stays c.queue _ id.number (ap (λ s. Some (record { site = s; number = id.number })) e) (tells _ false false false false false refl refl refl refl refl) l (λ h. cc) (λ h. cc))) (of_none u past c.queue _ _ refl refl refl)
-  serve_chain a c id r false os e l f = record { chain = forwards_rows past a c id os e l; actors = forwards_actors a c id os; sent = subst (All (FitsSender u)) (sym (forwards_sent a c id os)) f }
+      one_row c c _ refl refl refl tt (stays (named_stays c.queue _ id.number (ap (λ s. Some (record { site = s; number = id.number })) e) (tells _ false false false false false refl refl refl refl refl) l (λ h. cc) (λ h. cc))) (of_none u past c.queue _ _ refl refl refl refl)
+  serve_chain a c id r false os e l f = record { chain = forwards_rows past a c id os e l; actors = forwards_actors a c id os; sent = subst (All (FitsSender u (past ++ _))) (sym (forwards_sent a c id os)) (All-weaker (λ o. (rows : List Row) → FitsSender u rows o) (FitsSender u (past ++ _)) (λ o h. h (past ++ _)) os f) }
 
   -- sends
   -- a row that repeats a message by an entry that lives
@@ -218,7 +218,7 @@ module _ (u : Scenario) (past : List Row) (key : Key) where
     given_key scope id w z y g = ap (key_given c.queue.settings.kind) (sym (x.1 z y g)) ∙ w
 
     refused_sent : (e : Refusal) → IsSent (Err e, c.queue)
-    refused_sent e = one_row c c _ refl refl refl tt (stays (nameless_stays key c.queue _ refl (tells _ false false false false false refl refl refl refl refl))) (of_none u past c.queue _ _ refl refl refl)
+    refused_sent e = one_row c c _ refl refl refl tt (stays (nameless_stays key c.queue _ refl (tells _ false false false false false refl refl refl refl refl))) (of_none u past c.queue _ _ refl refl refl refl)
 
     new_sent :
         (group : Option (List ℕ)) (delay : ℕ) (entries : List Entry) → delay_given c.queue.settings given ≡ delay → (is_fifo c.queue.settings.kind ≡ true → group ≡ given.group) → ((e : Entry) → In entries e → e.number ≡ c.queue.arrivals → GivesKey e.scope e.id)
@@ -227,7 +227,7 @@ module _ (u : Scenario) (past : List Row) (key : Key) where
         let m : Message = new_message c.queue key.at given.body group delay in
         let waits : Waits key.at delay m = record { place = refl; release = refl } in
         one_row c (with_queue c (with_message (record c.queue { entries = entries }) m)) _ refl refl refl tt
-        (comes (record { one = m; entries = entries; tells = tells _ true false false false false refl refl refl refl refl; message = refl; number = refl; fresh = refl; delay = delay; waits = waits; arrives = λ e. cc; told = refl; sent = λ _. (refl, refl); entered = o; after = refl }))
+        (comes (record { one = m; entries = entries; tells = tells _ true false false false false refl refl refl refl refl; message = refl; number = refl; fresh = refl; delay = delay; waits = waits; told = refl; sent = λ _. (refl, refl); entered = o; after = refl }))
         (record {
           given = λ e one i z g h.
               let is : m ≡ one = let found : Some m ≡ Some one = sym (pushed_found c.queue.arrivals c.queue.records m refl s.given_out) ∙ i in cc in
@@ -235,7 +235,8 @@ module _ (u : Scenario) (past : List Row) (key : Key) where
           next = λ e. cc;
           timed = λ e. cc;
           repeats = λ e. cc;
-          arrives = λ _ e. cc;
+          brought = λ _ e. cc;
+          ends = λ _ e. cc;
           enters = λ e y i n. given_key y.scope y.id (k y i n);
           sends = λ e b f i. (given, x.0 b f i, refl);
         })
@@ -257,7 +258,7 @@ module _ (u : Scenario) (past : List Row) (key : Key) where
     unless_sent group scope id None w y g d f = new_sent (Some group) c.queue.settings.delay (with_entry c.queue key.at scope id).entries d (λ _. g) (more_key scope id w) (more_entries c.queue scope id)
     unless_sent group scope id (Some e) w y g d f =
         one_row c c _ refl refl refl tt (stays (named_stays c.queue _ e.number refl (tells _ false false false false false refl refl refl refl refl) (named_by c scope id e s f) (λ h. cc) (λ h. cc)))
-        (record { given = λ t. cc; next = λ t. cc; timed = λ t. cc; sends = λ t. cc; enters = λ t. cc; arrives = λ t. cc; repeats = λ t. repeats_by c.queue _ scope id e y f refl refl (λ _ i z n h. given_key scope id w z n h ∙ ap (λ j. (j, Some id)) (sym i.0) ∙ ap (λ j. (e.scope, Some j)) (sym i.1)) })
+        (record { given = λ t. cc; next = λ t. cc; timed = λ t. cc; sends = λ t. cc; enters = λ t. cc; brought = λ t. cc; ends = λ _ t. cc; repeats = λ t. repeats_by c.queue _ scope id e y f refl refl (λ _ i z n h. given_key scope id w z n h ∙ ap (λ j. (j, Some id)) (sym i.0) ∙ ap (λ j. (e.scope, Some j)) (sym i.1)) })
 
     with_sent : (scope : Scope) (group id : Option (List ℕ)) → ((g i : List ℕ) → group ≡ Some g → id ≡ Some i → GivesKey (scope_of scope g) i) → is_fifo c.queue.settings.kind ≡ true → group ≡ given.group → delay_given c.queue.settings given ≡ c.queue.settings.delay → IsSent (send_with c.queue scope key.at given.body group id)
     with_sent scope None id w y g d = refused_sent refusals.MissingGroup
@@ -276,7 +277,7 @@ module _ (u : Scenario) (past : List Row) (key : Key) where
 
   -- deletes
   refused_row : (c : Core) (r : Row) → r.key ≡ key → r.queue ≡ c.queue.site → r.message ≡ None → Asks key c.queue r r.kind → Tells r false false false false false → words.is_repeat r.answer ≡ false → IsChain c (says c r)
-  refused_row c r k s n y t w = one_row c c r k s refl y (stays (nameless_stays key c.queue r n t)) (tells_none u past c.queue r c.queue false false false t w)
+  refused_row c r k s n y t w = one_row c c r k s refl y (stays (nameless_stays key c.queue r n t)) (tells_none u past c.queue r c.queue t w)
 
   module _ (a : Actor) (c : Core) (text : List ℕ) (r : Receipt) (read : read_receipt text ≡ Some r) (s : IsStocked c.queue) where
     -- of the answer that the delete has
@@ -299,14 +300,14 @@ module _ (u : Scenario) (past : List Row) (key : Key) where
           refused = λ e. refused_row c _ refl refl refl (asks_delete _ _ refl refl e) (tells _ false false false false false refl refl refl refl refl) refl;
           gone = λ f l e.
               one_row c c _ refl refl refl (asks_delete _ _ refl refl e)
-              (stays (named_stays c.queue _ r.number refl (tells _ false false false false false refl refl refl refl refl) (grind (arith, nat_tests, l)) (λ h. cc) (λ h. f))) (of_none u past c.queue _ _ refl refl refl);
+              (stays (named_stays c.queue _ r.number refl (tells _ false false false false false refl refl refl refl refl) (grind (arith, nat_tests, l)) (λ h. cc) (λ h. f))) (of_none u past c.queue _ _ refl refl refl refl);
           kept = λ m f e.
               one_row c c _ refl refl refl (asks_delete _ _ refl refl e)
-              (stays (named_stays c.queue _ r.number refl (tells _ false false false false false refl refl refl refl refl) (found_old c.queue r.number m s f) (λ h. subst IsFound (sym f) tt) (λ h. cc))) (of_none u past c.queue _ _ refl refl refl);
+              (stays (named_stays c.queue _ r.number refl (tells _ false false false false false refl refl refl refl refl) (found_old c.queue r.number m s f) (λ h. subst IsFound (sym f) tt) (λ h. cc))) (of_none u past c.queue _ _ refl refl refl refl);
           taken = λ m f e.
               one_row c (with_queue c (taken_out c.queue r.number)) _ refl refl refl (asks_delete _ _ refl refl e)
-              (ends (record { one = m; number = r.number; tells = tells _ false false false false true refl refl refl refl refl; names = record { there = f; message = refl; sure = refl }; kind = refl; rested = λ e. cc; age = λ n t. refl; due = λ n t. cc; after = refl }))
-              (of_none u past c.queue _ _ refl refl refl);
+              (ends (record { one = m; number = r.number; tells = tells _ false false false false true refl refl refl refl refl; names = record { there = f; message = refl; sure = refl }; kind = refl; rested = λ e. cc; after = refl }))
+              (of_one u past c.queue _ _ r.number m refl refl refl refl f (λ _. record { age = refl; over = λ t. cc }));
         }) c.queue.settings.kind
 
   delete_chain_of : (a : Actor) (c : Core) (text : List ℕ) (o : Option Receipt) → read_receipt text ≡ o → IsStocked c.queue → IsChain c (delete_made key a c text o).effect
@@ -332,7 +333,20 @@ module _ (u : Scenario) (past : List Row) (key : Key) where
       ∙ ap (λ b. released_when b (with_change q n (in_flight_until end)) n (in_flight_until end m)) (leaves_alike q.settings.policy end m)
       ∙ changed_back (leaves q.settings.policy m) q n end m ∙ sym (ap (released_found q n) f)
 
-  module _ (a : Actor) (c : Core) (text : List ℕ) (timeout : ℕ) (r : Receipt) (read : read_receipt text ≡ Some r) (s : IsStocked c.queue) (home : is_actor_of u c.queue.site ≡ false) where
+  -- a change that is made ends at most 12 hours after the receive
+  change_limit : (q : Queue) (r : Receipt) (timeout : ℕ) (m : Message) (left : Option Load) → numbered r.number q.records ≡ Some m → (change q key.at r timeout).0 ≡ Ok left → key.at + 1000 * timeout ≤ m.received + longest_flight
+  change_limit q r timeout m left f =
+      either P (nat_lt longest_timeout timeout) (Err refusals.BadTimeout, q) _ (λ w. cc)
+      (either P (may_be_given q r) (change_found q key.at r timeout (numbered r.number q.records)) _
+      (subst (λ o. P (change_found q key.at r timeout o)) (sym f)
+      (either P (nat_lt m.receives r.count) (Err refusals.ReceiptHandleIsInvalid, q) _ (λ w. cc)
+      (either P (not (is_in_flight m) || nat_lt r.count m.receives) (Err refusals.MessageNotInflight, q) _ (λ w. cc)
+      (either_by P (nat_lt (m.received + longest_flight) (key.at + 1000 * timeout)) (Err refusals.BadTimeout, q) _ (λ e w. cc) (λ e w. grind (arith, nat_tests, e)))))) (λ w. cc))
+    where
+      P : Result (Option Load) Refusal × Queue → Type 0
+      P x = x.0 ≡ Ok left → key.at + 1000 * timeout ≤ m.received + longest_flight
+
+  module _ (a : Actor) (c : Core) (text : List ℕ) (timeout : ℕ) (r : Receipt) (read : read_receipt text ≡ Some r) (s : IsStocked c.queue) (home : slice_get u.queues c.queue.site ≡ Some c.queue.settings) (traced : AreTraced u past c.queue) where
     -- of the answer that the change has
     abbrev IsChanged : Result (Option Load) Refusal × Queue → Type 0
     IsChanged x = change c.queue key.at r timeout ≡ x → IsChain c (change_answered key a c text timeout r x).effect
@@ -347,13 +361,13 @@ module _ (u : Scenario) (past : List Row) (key : Key) where
           none = λ f. cc;
         }
 
-    change_move : (m : Message) → AsksChange key c.queue (change_row key a c text answers.Ok (Some (id_of c.queue r.number)) (details.Timeout timeout)) → numbered r.number c.queue.records ≡ Some m → is_in_flight m ≡ true → Move key c.queue (change_row key a c text answers.Ok (Some (id_of c.queue r.number)) (details.Timeout timeout)) (with_change c.queue r.number (in_flight_until (key.at + 1000 * timeout)))
-    change_move m y f l =
+    change_move : (m : Message) → key.at + 1000 * timeout ≤ m.received + longest_flight → AsksChange key c.queue (change_row key a c text answers.Ok (Some (id_of c.queue r.number)) (details.Timeout timeout)) → numbered r.number c.queue.records ≡ Some m → is_in_flight m ≡ true → Move key c.queue (change_row key a c text answers.Ok (Some (id_of c.queue r.number)) (details.Timeout timeout)) (with_change c.queue r.number (in_flight_until (key.at + 1000 * timeout)))
+    change_move m x y f l =
         record {
           at_key = refl;
           at_site = refl;
           asked = y;
-          does = changes (record { one = m; number = r.number; timeout = timeout; tells = tells _ false false true false false refl refl refl refl refl; names = record { there = f; message = refl; sure = refl }; flies = l; told = refl; after = refl });
+          does = changes (record { one = m; number = r.number; timeout = timeout; tells = tells _ false false true false false refl refl refl refl refl; names = record { there = f; message = refl; sure = refl }; flies = l; told = refl; limit = x; after = refl });
         }
 
     kept_change : (m : Message) → numbered r.number c.queue.records ≡ Some m → is_in_flight m ≡ true → (timeout == 0) ≡ false → IsChanged (Ok None, with_change c.queue r.number (in_flight_until (key.at + 1000 * timeout)))
@@ -362,7 +376,7 @@ module _ (u : Scenario) (past : List Row) (key : Key) where
         let row : Row = change_row key a c text answers.Ok (Some (id_of c.queue r.number)) (details.Timeout timeout) in
         let one : Effect = says (with_queue c q) row in
         let both : Effect = and_then one (λ d. came_back key d r.number None) in
-        subst (IsChain c) (sym (ap (λ b. if b then both else one) e)) (record { chain = one_move u past key c.queue row q (change_move m (asks_change _ row refl refl x) f l) (of_none u past c.queue row q refl refl refl); actors = refl; sent = All-nil (FitsSender u) })
+        subst (IsChain c) (sym (ap (λ b. if b then both else one) e)) (record { chain = one_move u past key c.queue row q (change_move m (change_limit c.queue r timeout m None f (ap (λ y. y.0) x)) (asks_change _ row refl refl x) f l) (of_none u past c.queue row q refl refl refl refl); actors = refl; sent = All-nil (FitsSender u (past ++ _)) })
 
     back_change : (m : Message) → numbered r.number c.queue.records ≡ Some m → is_in_flight m ≡ true → (timeout == 0) ≡ true → IsChanged (returned (released c.queue r.number))
     back_change m f l e w =
@@ -377,13 +391,15 @@ module _ (u : Scenario) (past : List Row) (key : Key) where
         let one : Effect = says d row in
         let both : Effect = and_then one (λ d. came_back key d n x.1) in
         let same : released taken n ≡ x = released_changed c.queue n end m f in
-        let back : (e : Core) → e.queue.site ≡ c.queue.site → e.queue.settings ≡ c.queue.settings → Chain u behind key taken (came_back key e n x.1).rows x.0 =
-        λ e i j. subst (λ (y : Queue × Option Load). Chain u behind key taken (came_back key e n y.1).rows y.0) same (one_back key u behind taken e n (in_flight_until end m) i j (own_changed n (in_flight_until end) (λ x. refl) c.queue.records m f) (ap (λ t. Some t) now)) in
-        let first : Chain u past key c.queue (row ∷ []) taken = one_move u past key c.queue row taken (change_move m (asks_change _ row refl refl w) f l) (of_none u past c.queue row taken refl refl refl) in
-        let kept : Keeps c.queue x.0 = chain_keeps u past key (row ∷ [] ++ (came_back key c n x.1).rows) c.queue x.0 (chain_append u past key (row ∷ []) (came_back key c n x.1).rows c.queue taken x.0 first (back c refl refl)) s in
+        let first : Chain u past key c.queue (row ∷ []) taken = one_move u past key c.queue row taken (change_move m (change_limit c.queue r timeout m x.1 f (ap (λ y. y.0) w)) (asks_change _ row refl refl w) f l) (of_none u past c.queue row taken refl refl refl refl) in
+        let told : AreTraced u behind taken = chain_traces u past key (row ∷ []) c.queue taken home s first traced in
+        let back : (e : Core) → e.queue.site ≡ c.queue.site → e.queue.settings ≡ c.queue.settings → Returns key u behind taken x.0 (came_back key e n x.1) =
+        λ e i j. subst (λ (y : Queue × Option Load). Returns key u behind taken y.0 (came_back key e n y.1)) same (one_back key u behind taken e n (in_flight_until end m) home told i j (own_changed n (in_flight_until end) (λ x. refl) c.queue.records m f) (ap (λ t. Some t) now)) in
+        let kept : Keeps c.queue x.0 = chain_keeps u past key (row ∷ [] ++ (came_back key c n x.1).rows) c.queue x.0 (chain_append u past key (row ∷ []) (came_back key c n x.1).rows c.queue taken x.0 first (back c refl refl).chain) s in
+        let last : Returns key u behind taken x.0 (came_back key d n x.1) = back d (sym kept.site) (sym kept.settings) in
         let after : Told key d (came_back key d n x.1).core = back_told key d n x.1 in
-        let chain : Chain u past key c.queue both.rows x.0 = chain_append u past key (row ∷ []) (came_back key d n x.1).rows c.queue taken x.0 first (back d (sym kept.site) (sym kept.settings)) in
-        subst (IsChain c) (sym (ap (λ b. if b then both else one) e)) (record { chain = subst (Chain u past key c.queue both.rows) (sym after.queue) chain; actors = after.actors; sent = back_fits key u d n x.1 (ap (is_actor_of u) (sym kept.site) ∙ home) })
+        let chain : Chain u past key c.queue both.rows x.0 = chain_append u past key (row ∷ []) (came_back key d n x.1).rows c.queue taken x.0 first last.chain in
+        subst (IsChain c) (sym (ap (λ b. if b then both else one) e)) (record { chain = subst (Chain u past key c.queue both.rows) (sym after.queue) chain; actors = after.actors; sent = subst (λ r. All (FitsSender u r) (came_back key d n x.1).sent) (append_assoc past (row ∷ []) (came_back key d n x.1).rows) last.sent })
 
     changed_chain : IsChanged (change c.queue key.at r timeout)
     changed_chain =
@@ -398,50 +414,56 @@ module _ (u : Scenario) (past : List Row) (key : Key) where
   no_receipt true = inr refl
   no_receipt false = inl refl
 
-  change_chain_of : (a : Actor) (c : Core) (text : List ℕ) (timeout : ℕ) (o : Option Receipt) → read_receipt text ≡ o → IsStocked c.queue → is_actor_of u c.queue.site ≡ false → IsChain c (change_made key a c text timeout o).effect
-  change_chain_of a c text timeout None e s home =
+  change_chain_of : (a : Actor) (c : Core) (text : List ℕ) (timeout : ℕ) (o : Option Receipt) → read_receipt text ≡ o → IsStocked c.queue → slice_get u.queues c.queue.site ≡ Some c.queue.settings → AreTraced u past c.queue → IsChain c (change_made key a c text timeout o).effect
+  change_chain_of a c text timeout None e s home traced =
       refused_row c _ refl refl refl (record { text = text; given = refl; timeout = timeout; by = λ y f. cc; none = λ f. no_receipt (nat_lt 43200 timeout) }) (tells _ false false false false false refl refl refl refl refl) refl
-  change_chain_of a c text timeout (Some r) e s home = changed_chain a c text timeout r e s home refl
+  change_chain_of a c text timeout (Some r) e s home traced = changed_chain a c text timeout r e s home traced refl
 
-  pub change_chain : (a : Actor) (c : Core) (text : List ℕ) (timeout : ℕ) → IsStocked c.queue → is_actor_of u c.queue.site ≡ false → IsChain c (change_made key a c text timeout (read_receipt text)).effect
-  change_chain a c text timeout s home = change_chain_of a c text timeout (read_receipt text) refl s home
+  pub change_chain : (a : Actor) (c : Core) (text : List ℕ) (timeout : ℕ) → IsStocked c.queue → slice_get u.queues c.queue.site ≡ Some c.queue.settings → AreTraced u past c.queue → IsChain c (change_made key a c text timeout (read_receipt text)).effect
+  change_chain a c text timeout s home traced = change_chain_of a c text timeout (read_receipt text) refl s home traced
 
   -- what is due of messages
   pub expiry_chain : (c : Core) (m : Message) → numbered key.number c.queue.records ≡ Some m → key.at ≡ m.enqueued + c.queue.settings.retention → IsChain c (handle_expiry key c)
   expiry_chain c m f l =
       subst (λ x. IsChain c (expiry_done key c (expired_found c.queue key.at key.number x))) (sym f)
       (one_row c (with_queue c (taken_out c.queue key.number)) _ refl refl refl tt
-      (ends (record { one = m; number = key.number; tells = tells _ false false false false true refl refl refl refl refl; names = record { there = f; message = refl; sure = refl }; kind = refl; rested = λ e. cc; age = λ n t. refl; due = λ n t. l; after = refl }))
-      (of_none u past c.queue _ _ refl refl refl))
+      (ends (record { one = m; number = key.number; tells = tells _ false false false false true refl refl refl refl refl; names = record { there = f; message = refl; sure = refl }; kind = refl; rested = λ e. cc; after = refl }))
+      (of_one u past c.queue _ _ key.number m refl refl refl refl f (λ _. record { age = refl; over = λ _. inl l })))
 
-  pub release_chain : (c : Core) (m : Message) → IsStocked c.queue → numbered key.number c.queue.records ≡ Some m → m.release ≡ Some key.at → is_actor_of u c.queue.site ≡ false → IsChain c (release_done key c (released c.queue key.number))
-  release_chain c m s f l home =
+  pub release_chain : (c : Core) (m : Message) → IsStocked c.queue → numbered key.number c.queue.records ≡ Some m → m.release ≡ Some key.at → slice_get u.queues c.queue.site ≡ Some c.queue.settings → AreTraced u past c.queue → IsChain c (release_done key c (released c.queue key.number))
+  release_chain c m s f l home traced =
       let n : ℕ = key.number in
       let x : Queue × Option Load = released c.queue n in
       let d : Core = with_queue c x.0 in
-      let old : Chain u past key c.queue (came_back key c n x.1).rows x.0 = one_back key u past c.queue c n m refl refl f l in
+      let old : Chain u past key c.queue (came_back key c n x.1).rows x.0 = (one_back key u past c.queue c n m home traced refl refl f l).chain in
       let kept : Keeps c.queue x.0 = chain_keeps u past key (came_back key c n x.1).rows c.queue x.0 old s in
       let after : Told key d (came_back key d n x.1).core = back_told key d n x.1 in
-      record {
-        chain = subst (Chain u past key c.queue (came_back key d n x.1).rows) (sym after.queue) (one_back key u past c.queue d n m (sym kept.site) (sym kept.settings) f l);
-        actors = after.actors;
-        sent = back_fits key u d n x.1 (ap (is_actor_of u) (sym kept.site) ∙ home);
-      }
+      let last : Returns key u past c.queue x.0 (came_back key d n x.1) = one_back key u past c.queue d n m home traced (sym kept.site) (sym kept.settings) f l in
+      record { chain = subst (Chain u past key c.queue (came_back key d n x.1).rows) (sym after.queue) last.chain; actors = after.actors; sent = last.sent }
 
   -- arrivals
   abbrev IsArrived : Core → Load → (Sent × Bool) × Queue → Type 0
   IsArrived c load x = IsChain c (arrival_done key load c x)
 
-  -- what arrives has the delay of its queue or none
-  abbrev WaitsAs : Core → Message → Type 0
-  WaitsAs c m = (delay : ℕ) × Waits key.at delay m × ((delay ≡ 0) ⊎ (delay ≡ c.queue.settings.delay))
+  -- a transfer that arrives by this handling
+  pub record IsArriving (c : Core) (o : Outbound) : Type 0 where
+    pub fits : FitsSender u past o
+    pub sender : o.sender ≡ key.agent
+    pub at : o.at ≡ key.at
+    pub to : o.to ≡ c.queue.site
 
-  come_move : (c : Core) (r : Row) (m : Message) (entries : List Entry) → r.key ≡ key → r.queue ≡ c.queue.site → r.message ≡ Some (id_of c.queue c.queue.arrivals) → Asks key c.queue r r.kind → Tells r true false false false false → m.number ≡ c.queue.arrivals → m.receives ≡ 0 → WaitsAs c m → origin_in r (Some (id_of c.queue c.queue.arrivals)) ≡ Some m.origin → words.is_send r.kind ≡ false → All (IsEntered key c.queue) entries → Move key c.queue r (with_message (record c.queue { entries = entries }) m)
-  come_move c r m entries k s i y t n f l g d o = record { at_key = k; at_site = s; asked = y; does = comes (record { one = m; entries = entries; tells = t; message = i; number = n; fresh = f; delay = l.0; waits = l.1; arrives = λ _. l.2; told = g; sent = λ t. cc; entered = o; after = refl }) }
+  abbrev WaitsAs : Message → Type 0
+  WaitsAs m = (delay : ℕ) × Waits key.at delay m
+
+  brings : (c : Core) (o : Outbound) (load : Load) (m : Message) → IsArriving c o → o.load ≡ load → IsMadeBy c.queue key.at load m → IsBrought u past c.queue (arrival_row key c load answers.New (id_of c.queue c.queue.arrivals)) m
+  brings c o load m h e w = record { transfer = o; fits = h.fits; sender = h.sender; to = h.to; at = h.at; arrives = refl; made = subst (λ x. IsMadeBy c.queue key.at x m) (sym e) w }
+
+  come_move : (c : Core) (r : Row) (m : Message) (entries : List Entry) → r.key ≡ key → r.queue ≡ c.queue.site → r.message ≡ Some (id_of c.queue c.queue.arrivals) → Asks key c.queue r r.kind → Tells r true false false false false → m.number ≡ c.queue.arrivals → m.receives ≡ 0 → WaitsAs m → origin_in r (Some (id_of c.queue c.queue.arrivals)) ≡ Some m.origin → words.is_send r.kind ≡ false → All (IsEntered key c.queue) entries → Move key c.queue r (with_message (record c.queue { entries = entries }) m)
+  come_move c r m entries k s i y t n f l g d o = record { at_key = k; at_site = s; asked = y; does = comes (record { one = m; entries = entries; tells = t; message = i; number = n; fresh = f; delay = l.0; waits = l.1; told = g; sent = λ t. cc; entered = o; after = refl }) }
 
   -- what a row tells by which a message arrives
-  come_behind : (c : Core) (r : Row) (m : Message) (p : Queue) → words.is_send r.kind ≡ false → words.received r ≡ false → words.is_repeat r.answer ≡ false → numbered c.queue.arrivals p.records ≡ Some m → r.key ≡ key → (is_actor_of u r.agent ≡ true → Waits key.at c.queue.settings.delay m) → IsBehind u past c.queue r p
-  come_behind c r m p a b d i k w =
+  come_behind : (c : Core) (r : Row) (m : Message) (p : Queue) → words.is_send r.kind ≡ false → words.received r ≡ false → words.is_repeat r.answer ≡ false → (is_deleted r.answer || is_expired r.answer) ≡ false → numbered c.queue.arrivals p.records ≡ Some m → IsBrought u past c.queue r m → IsBehind u past c.queue r p
+  come_behind c r m p a b d f i w =
       let none : (words.is_send r.kind && words.comes r) ≡ false = ap (λ x. x && words.comes r) a in
       record {
         given = λ e. absurd (true≢false (sym e ∙ none));
@@ -450,68 +472,74 @@ module _ (u : Scenario) (past : List Row) (key : Key) where
         repeats = λ e. absurd (true≢false (sym e ∙ d));
         sends = λ e. absurd (true≢false (sym e ∙ none));
         enters = λ e. absurd (true≢false (sym e ∙ none));
-        arrives = λ _ _ t one j.
-            let is : m ≡ one = let found : Some m ≡ Some one = sym i ∙ j in cc in
-            subst (λ (x : Key). Waits x.at c.queue.settings.delay one) (sym k) (subst (Waits key.at c.queue.settings.delay) is (w t));
+        ends = λ _ e. absurd (true≢false (sym e ∙ f));
+        brought = λ _ _ one j. let is : m ≡ one = let found : Some m ≡ Some one = sym i ∙ j in cc in subst (IsBrought u past c.queue r) is w;
       }
 
-  settled_chain : (b : Bool) (c : Core) (load : Load) (m : Message) → (is_actor_of u key.agent ≡ false) → m.number ≡ c.queue.arrivals → m.receives ≡ 0 → WaitsAs c m → load_origin load (id_of c.queue c.queue.arrivals) ≡ m.origin → (m.source ≡ None → load_age load key.at ≡ key.at - m.enqueued) → (m.source ≡ None → b ≡ true → key.at ≡ m.enqueued + c.queue.settings.retention) → IsStocked c.queue → IsArrived c load (settled_when b c.queue m)
-  settled_chain false c load m task n f l g d w s =
-      record { chain = one_move u past key c.queue _ _ (come_move c _ m c.queue.entries refl refl refl tt (tells _ true false false false false refl refl refl refl refl) n f l (ap (λ x. Some x) g) refl (old_entries c.queue)) (come_behind c _ m _ refl refl refl (pushed_found c.queue.arrivals c.queue.records m n s.given_out) refl (λ e. absurd (true≢false (sym e ∙ task)))); actors = refl; sent = All-nil (FitsSender u) }
-  settled_chain true c load m task n f l g d w s =
+  settled_chain : (b : Bool) (c : Core) (load : Load) (m : Message) → IsBrought u past c.queue (arrival_row key c load answers.New (id_of c.queue c.queue.arrivals)) m → m.number ≡ c.queue.arrivals → m.receives ≡ 0 → WaitsAs m → load_origin load (id_of c.queue c.queue.arrivals) ≡ m.origin → (b ≡ true → 0 < c.queue.settings.retention → (load_age load key.at ≡ key.at - m.enqueued) × (m.enqueued + c.queue.settings.retention ≤ key.at)) → IsStocked c.queue → IsArrived c load (settled_when b c.queue m)
+  settled_chain false c load m w n f l g d s =
+      record { chain = one_move u past key c.queue _ _ (come_move c _ m c.queue.entries refl refl refl tt (tells _ true false false false false refl refl refl refl refl) n f l (ap (λ x. Some x) g) refl (old_entries c.queue)) (come_behind c _ m _ refl refl refl refl (pushed_found c.queue.arrivals c.queue.records m n s.given_out) w); actors = refl; sent = All-nil (FitsSender u (past ++ _)) }
+  settled_chain true c load m w n f l g d s =
       let q : Queue = c.queue in
       let x : Queue = with_message q m in
+      let r : Row = arrival_row key c load answers.New (id_of q q.arrivals) in
+      let found : numbered q.arrivals x.records ≡ Some m = pushed_found q.arrivals q.records m n s.given_out in
       let gone : taken_out x q.arrivals ≡ record q { arrivals = q.arrivals + 1 } = ap (λ records. record q { records = records; arrivals = q.arrivals + 1 }) (pushed_out q.arrivals q.records m n s.given_out) in
       record {
         chain = (
           x,
-          come_move c _ m q.entries refl refl refl tt (tells _ true false false false false refl refl refl refl refl) n f l (ap (λ x. Some x) g) refl (old_entries q),
-          come_behind c _ m x refl refl refl (pushed_found q.arrivals q.records m n s.given_out) refl (λ e. absurd (true≢false (sym e ∙ task))),
-          one_move u (past ++ _ ∷ []) key x _ (record q { arrivals = q.arrivals + 1 })
+          come_move c r m q.entries refl refl refl tt (tells _ true false false false false refl refl refl refl refl) n f l (ap (λ x. Some x) g) refl (old_entries q),
+          come_behind c r m x refl refl refl refl found w,
+          one_move u (past ++ r ∷ []) key x _ (record q { arrivals = q.arrivals + 1 })
               (record {
                 at_key = refl;
                 at_site = refl;
                 asked = tt;
-                does = ends (record { one = m; number = q.arrivals; tells = tells _ false false false false true refl refl refl refl refl; names = record { there = pushed_found q.arrivals q.records m n s.given_out; message = refl; sure = refl }; kind = refl; rested = λ e. cc; age = λ y t. ap details.Age (d y); due = λ y t. w y refl; after = gone });
-              }) (of_none u _ x _ _ refl refl refl),
+                does = ends (record { one = m; number = q.arrivals; tells = tells _ false false false false true refl refl refl refl refl; names = record { there = found; message = refl; sure = refl }; kind = refl; rested = λ e. cc; after = gone });
+              })
+              (of_one u (past ++ r ∷ []) x _ _ q.arrivals m refl refl refl refl found
+              (λ y. record { age = ap details.Age (d refl y).0; over = λ _. inr ((d refl y).1, (r, last_as words.comes (id_of q q.arrivals) past r true (names_same (id_of q q.arrivals) r refl), refl)) })),
         );
         actors = refl;
-        sent = All-nil (FitsSender u);
+        sent = All-nil (FitsSender u (past ++ _));
       }
 
-  new_come : (c : Core) (id : MessageId) (group : Option (List ℕ)) (body : List ℕ) (m : Message) (entries : List Entry) → IsStocked c.queue → Waits key.at c.queue.settings.delay m → m.number ≡ c.queue.arrivals → m.receives ≡ 0 → WaitsAs c m → record { site = c.queue.site; number = c.queue.arrivals } ≡ m.origin → All (IsEntered key c.queue) entries → IsArrived c (Forward id group body) ((New (id_of c.queue c.queue.arrivals), false), with_message (record c.queue { entries = entries }) m)
-  new_come c id group body m entries s w n f l g o =
-      record { chain = one_move u past key c.queue _ _ (come_move c _ m entries refl refl refl tt (tells _ true false false false false refl refl refl refl refl) n f l (ap (λ x. Some x) g) refl o) (come_behind c _ m _ refl refl refl (pushed_found c.queue.arrivals c.queue.records m n s.given_out) refl (λ _. w)); actors = refl; sent = All-nil (FitsSender u) }
+  module _ (c : Core) (o : Outbound) (id : MessageId) (g : Option (List ℕ)) (b : List ℕ) (e : o.load ≡ Forward id g b) (h : IsArriving c o) (s : IsStocked c.queue) where
+    new_come : (m : Message) (entries : List Entry) → m.enqueued ≡ key.at → Waits key.at c.queue.settings.delay m → m.number ≡ c.queue.arrivals → m.receives ≡ 0 → record { site = c.queue.site; number = c.queue.arrivals } ≡ m.origin → All (IsEntered key c.queue) entries → IsArrived c (Forward id g b) ((New (id_of c.queue c.queue.arrivals), false), with_message (record c.queue { entries = entries }) m)
+    new_come m entries a w n f i k =
+        record { chain = one_move u past key c.queue _ _ (come_move c _ m entries refl refl refl tt (tells _ true false false false false refl refl refl refl refl) n f (c.queue.settings.delay, w) (ap (λ x. Some x) i) refl k) (come_behind c _ m _ refl refl refl refl (pushed_found c.queue.arrivals c.queue.records m n s.given_out) (brings c o (Forward id g b) m h e (a, w, sym i))); actors = refl; sent = All-nil (FitsSender u (past ++ _)) }
 
-  unless_come : (c : Core) (id : MessageId) (g : Option (List ℕ)) (b body group : List ℕ) (scope : Option (List ℕ)) (text : List ℕ) (o : Option Entry) → is_fifo c.queue.settings.kind ≡ true → living c.queue key.at scope text ≡ o → IsStocked c.queue → IsArrived c (Forward id g b) (sent_of c.queue (send_unless c.queue key.at body group scope text o))
-  unless_come c id g b body group scope text None y f s =
-      new_come c id g b (new_message c.queue key.at body (Some group) c.queue.settings.delay) (with_entry c.queue key.at scope text).entries s (waits_at c.queue body (Some group) c.queue.settings.delay) refl refl (c.queue.settings.delay, waits_at c.queue body (Some group) c.queue.settings.delay, inr refl) refl (more_entries c.queue scope text)
-  unless_come c id g b body group scope text (Some e) y f s =
-      record {
-        chain = one_move u past key c.queue _ _ (record { at_key = refl; at_site = refl; asked = tt; does = stays (named_stays c.queue _ e.number refl (tells _ false false false false false refl refl refl refl refl) (named_by c scope text e s f) (λ h. cc) (λ h. cc)) }) (record { given = λ t. cc; next = λ t. cc; timed = λ t. cc; sends = λ t. cc; enters = λ t. cc; repeats = λ t. repeats_by c.queue _ scope text e y f refl refl (λ t. cc); arrives = λ t. cc });
-        actors = refl;
-        sent = All-nil (FitsSender u);
-      }
+    unless_come : (body group : List ℕ) (scope : Option (List ℕ)) (text : List ℕ) (x : Option Entry) → is_fifo c.queue.settings.kind ≡ true → living c.queue key.at scope text ≡ x → IsArrived c (Forward id g b) (sent_of c.queue (send_unless c.queue key.at body group scope text x))
+    unless_come body group scope text None y f = new_come (new_message c.queue key.at body (Some group) c.queue.settings.delay) (with_entry c.queue key.at scope text).entries refl (waits_at c.queue body (Some group) c.queue.settings.delay) refl refl refl (more_entries c.queue scope text)
+    unless_come body group scope text (Some x) y f =
+        record {
+          chain = one_move u past key c.queue _ _ (record { at_key = refl; at_site = refl; asked = tt; does = stays (named_stays c.queue _ x.number refl (tells _ false false false false false refl refl refl refl refl) (named_by c scope text x s f) (λ h. cc) (λ h. cc)) }) (record { given = λ t. cc; next = λ t. cc; timed = λ t. cc; sends = λ t. cc; enters = λ t. cc; repeats = λ t. repeats_by c.queue _ scope text x y f refl refl (λ t. cc); brought = λ t. cc; ends = λ _ t. cc });
+          actors = refl;
+          sent = All-nil (FitsSender u (past ++ _));
+        }
 
-  forwarded_chain : (k : Kind) (c : Core) (id : MessageId) (body : List ℕ) (group : Option (List ℕ)) → c.queue.settings.kind ≡ k → IsStocked c.queue → IsArrived c (Forward id group body) (forwarded k c.queue key.at id body group)
-  forwarded_chain (Standard hosts sampled) c id body group y s =
-      new_come c id group body (new_message c.queue key.at body None c.queue.settings.delay) c.queue.entries s (waits_at c.queue body None c.queue.settings.delay) refl refl (c.queue.settings.delay, waits_at c.queue body None c.queue.settings.delay, inr refl) refl (old_entries c.queue)
-  forwarded_chain (Fifo content scope) c id body group y s =
-      let g : List ℕ = forwarded_group group in
-      unless_come c id group body body g (scope_of scope g) (id_text id) (living c.queue key.at (scope_of scope g) (id_text id)) (ap is_fifo y) refl s
+    forwarded_chain : (k : Kind) → c.queue.settings.kind ≡ k → IsArrived c (Forward id g b) (forwarded k c.queue key.at id b g)
+    forwarded_chain (Standard hosts sampled) y = new_come (new_message c.queue key.at b None c.queue.settings.delay) c.queue.entries refl (waits_at c.queue b None c.queue.settings.delay) refl refl refl (old_entries c.queue)
+    forwarded_chain (Fifo content scope) y =
+        let group : List ℕ = forwarded_group g in
+        unless_come b group (scope_of scope group) (id_text id) (living c.queue key.at (scope_of scope group) (id_text id)) (ap is_fifo y) refl
 
-  no_actor : (b : Bool) → (b ≡ true → ⊥) → b ≡ false
-  no_actor true f = absurd (f refl)
-  no_actor false f = refl
+  -- the age of a dead letter that is too old
+  old_age : (k : Kind) (retention before : ℕ) → nat_le retention (key.at - enqueued_at k key.at before) ≡ true → 0 < retention → (key.at - before ≡ key.at - enqueued_at k key.at before) × (enqueued_at k key.at before + retention ≤ key.at)
+  old_age (Standard hosts sampled) retention before t l = let old : retention ≤ key.at - before = leb-true retention (key.at - before) t in (refl, omega (arith, old, l))
+  old_age (Fifo content scope) retention before t l = let none : retention ≤ key.at - key.at = leb-true retention (key.at - key.at) t in absurd (omega (arith, none, l))
 
-  pub arrived_chain : (c : Core) (load : Load) → (is_actor_of u key.agent ≡ true → IsForward load) → IsStocked c.queue → IsArrived c load (arrived c.queue key.at load)
-  arrived_chain c (Redrive id group origin body enqueued) t s =
-      let m : Message = brought c.queue key.at origin body group (enqueued_at c.queue.settings.kind key.at enqueued) (Some id.site) in
-      settled_chain (is_too_old c.queue key.at m) c (Redrive id group origin body enqueued) m (no_actor (is_actor_of u key.agent) t) refl refl (0, record { place = refl; release = refl }, inl refl) refl (λ y. cc) (λ y. cc) s
-  arrived_chain c (Moves id group origin body) t s =
-      let m : Message = brought c.queue key.at origin body group key.at None in
-      settled_chain (is_too_old c.queue key.at m) c (Moves id group origin body) m (no_actor (is_actor_of u key.agent) t) refl refl (0, record { place = refl; release = refl }, inl refl) refl (λ y. omega arith) (λ y t. let none : c.queue.settings.retention ≤ key.at - key.at = leb-true c.queue.settings.retention (key.at - key.at) t in omega (arith, none)) s
-  arrived_chain c (Forward id group body) t s = forwarded_chain c.queue.settings.kind c id body group refl s
+  pub arrived_chain : (c : Core) (o : Outbound) → IsArriving c o → IsStocked c.queue → IsArrived c o.load (arrived c.queue key.at o.load)
+  arrived_chain c o h s = by_load o.load refl
+    where
+      by_load : (load : Load) → o.load ≡ load → IsArrived c load (arrived c.queue key.at load)
+      by_load (Redrive id group origin body enqueued) e =
+          let m : Message = brought c.queue key.at origin body group (enqueued_at c.queue.settings.kind key.at enqueued) (Some id.site) in
+          settled_chain (is_too_old c.queue key.at m) c (Redrive id group origin body enqueued) m (brings c o (Redrive id group origin body enqueued) m h e refl) refl refl (0, record { place = refl; release = refl }) refl (old_age c.queue.settings.kind c.queue.settings.retention enqueued) s
+      by_load (Moves id group origin body) e =
+          let m : Message = brought c.queue key.at origin body group key.at None in
+          settled_chain (is_too_old c.queue key.at m) c (Moves id group origin body) m (brings c o (Moves id group origin body) m h e refl) refl refl (0, record { place = refl; release = refl }) refl (λ t l. let none : c.queue.settings.retention ≤ key.at - key.at = leb-true c.queue.settings.retention (key.at - key.at) t in absurd (omega (arith, none, l))) s
+      by_load (Forward id group body) e = forwarded_chain c o id group body e h s c.queue.settings.kind refl
 
   -- steps of tasks
   moved_stand : (q : Queue) (m : Message) (ms : List Message) → All (λ x. x.number ≢ m.number) ms → Stand q ms → Stand (taken_out q m.number) ms
@@ -542,20 +570,18 @@ module _ (u : Scenario) (past : List Row) (key : Key) where
                       names = record { there = All-head (λ y. numbered y.number q.records ≡ Some y) m ms s; message = refl; sure = refl };
                       kind = refl;
                       rested = λ _. All-head (λ y. is_visible y ≡ true) m ms v;
-                      age = λ y t. cc;
-                      due = λ y t. cc;
                       after = refl;
                     });
               },
-              of_none u behind q _ x refl refl refl,
+              of_none u behind q _ x refl refl refl refl,
               moved_chain (behind ++ _ ∷ []) to ms x d (one_sent t (drawn_latency t.move.settings.latency t.draws).1) e a.1 (moved_stand q m ms a.0 (All-tail (λ y. numbered y.number q.records ≡ Some y) m ms s)) (All-tail (λ y. is_visible y ≡ true) m ms v),
             )
       ]
 
   end_chain : (behind : List Row) (c : Core) (q : Queue) (t : Task) (rest : Rest) → c.queue.site ≡ q.site → Chain u behind key q (end_row key c t rest) q
-  end_chain behind c q t Empty e = one_move u behind key q _ q (record { at_key = refl; at_site = e; asked = tt; does = stays (nameless_stays key q _ refl (tells _ false false false false false refl refl refl refl refl)) }) (of_none u behind q _ q refl refl refl)
+  end_chain behind c q t Empty e = one_move u behind key q _ q (record { at_key = refl; at_site = e; asked = tt; does = stays (nameless_stays key q _ refl (tells _ false false false false false refl refl refl refl refl)) }) (of_none u behind q _ q refl refl refl refl)
   end_chain behind c q t More e = refl
-  end_chain behind c q t NoSource e = one_move u behind key q _ q (record { at_key = refl; at_site = e; asked = tt; does = stays (nameless_stays key q _ refl (tells _ false false false false false refl refl refl refl refl)) }) (of_none u behind q _ q refl refl refl)
+  end_chain behind c q t NoSource e = one_move u behind key q _ q (record { at_key = refl; at_site = e; asked = tt; does = stays (nameless_stays key q _ refl (tells _ false false false false false refl refl refl refl refl)) }) (of_none u behind q _ q refl refl refl refl)
 
   taken_site : (to : Option ℕ) (ms : List Message) (q : Queue) → (take_each q to ms).queue.site ≡ q.site
   taken_site to [] q = refl
@@ -566,27 +592,32 @@ module _ (u : Scenario) (past : List Row) (key : Key) where
         | Some n ↦ taken_site to ms (taken_out q m.number)
       ]
 
-  moves_fit : (c : Core) (t : Task) (loads : List (ℕ × Load)) → is_actor_of u t.number ≡ false → All (FitsSender u) (moves key c t loads).sent
-  moves_fit c t [] h = All-nil (FitsSender u)
-  moves_fit c t (x ∷ rest) h = All-cons (FitsSender u) _ _ (λ e. absurd (true≢false (sym e ∙ h))) (moves_fit c (one_sent t (drawn_latency t.move.settings.latency t.draws).1) rest h)
+  moves_fit : (rows : List Row) (to : Option ℕ) (ms : List Message) (q : Queue) (d : Core) (t : Task) → length u.queues + length u.actors ≤ t.number → All (λ m. OfGroup u rows m.origin m.group) ms → All (FitsSender u rows) (moves key d t (take_each q to ms).loads).sent
+  moves_fit rows to [] q d t h g = All-nil (FitsSender u rows)
+  moves_fit rows to (m ∷ ms) q d t h g =
+      elim (destination to m) as
+      (λ o. All (FitsSender u rows) (moves key d t (elim o as (λ _. Taken) [ None ↦ record { queue = q; loads = []; stuck = true } | Some n ↦ taken_one q m n (take_each (taken_out q m.number) to ms) ]).loads).sent) [
+        | None ↦ All-nil (FitsSender u rows)
+        | Some n ↦ All-cons (FitsSender u rows) _ _ (h, All-head (λ x. OfGroup u rows x.origin x.group) m ms g) (moves_fit rows to ms (taken_out q m.number) d (one_sent t (drawn_latency t.move.settings.latency t.draws).1) h (All-tail (λ x. OfGroup u rows x.origin x.group) m ms g))
+      ]
 
   moves_task : (c : Core) (t : Task) (loads : List (ℕ × Load)) → (moves key c t loads).task.number ≡ t.number
   moves_task c t [] = refl
   moves_task c t (x ∷ rest) = moves_task c (one_sent t (drawn_latency t.move.settings.latency t.draws).1) rest
 
-  pub stepped_task : (c : Core) (t : Task) → All (λ x. is_actor_of u x.number ≡ false) c.tasks → is_actor_of u t.number ≡ false → All (λ x. is_actor_of u x.number ≡ false) (handle_step key c (Some t)).core.tasks
+  pub stepped_task : (c : Core) (t : Task) → All (λ x. length u.queues + length u.actors ≤ x.number) c.tasks → length u.queues + length u.actors ≤ t.number → All (λ x. length u.queues + length u.actors ≤ x.number) (handle_step key c (Some t)).core.tasks
   stepped_task c t h f =
       let y : (List (ℕ × Load) × Rest) × Queue = take_movable c.queue t.move.settings.per_second t.move.settings.to in
       let m : Moved = moves key (with_queue c y.1) t y.0.0 in
       let x : Task = record m.task { move = task_stepped m.task.move key.at (length y.0.0) y.0.1 } in
-      all_changed (is_task x.number) (λ (z : Task). is_actor_of u z.number ≡ false) (λ _. x) (λ _ _. ap (is_actor_of u) (moves_task (with_queue c y.1) t y.0.0) ∙ f) c.tasks h
+      all_changed (is_task x.number) (λ (z : Task). length u.queues + length u.actors ≤ z.number) (λ _. x) (λ _ _. let same : m.task.number ≡ t.number = moves_task (with_queue c y.1) t y.0.0 in omega (arith, f, same)) c.tasks h
 
   -- a step, but for what becomes of its task
   abbrev pub step_of : Core → Task → Effect
   step_of c t = let e : Effect = handle_step key c (Some t) in record { core = record e.core { tasks = c.tasks }; rows = e.rows; sent = e.sent }
 
-  pub step_chain : (c : Core) (t : Task) → is_actor_of u t.number ≡ false → IsStocked c.queue → IsChain c (step_of c t)
-  step_chain c t h s =
+  pub step_chain : (c : Core) (t : Task) → length u.queues + length u.actors ≤ t.number → IsStocked c.queue → AreTraced u past c.queue → IsChain c (step_of c t)
+  step_chain c t h s traced =
       let set : ℕ = all_hosts c.queue.settings.kind in
       let most : ℕ = t.move.settings.per_second in
       let to : Option ℕ = t.move.settings.to in
@@ -596,5 +627,10 @@ module _ (u : Scenario) (past : List Row) (key : Key) where
       let m : Moved = moves key d t y.0.0 in
       let x : Task = record m.task { move = task_stepped m.task.move key.at (length y.0.0) y.0.1 } in
       let site : y.1.site ≡ c.queue.site = taken_site to ms c.queue in
+      let groups : All (λ z. OfGroup u (past ++ (m.rows ++ end_row key d x y.0.1)) z.origin z.group) ms =
+      λ i e l.
+      let z : Message = get_or ms i e in
+      let there : numbered z.number c.queue.records ≡ Some z = first_stand c.queue set most s.ordered i e l in
+      group_later u past (m.rows ++ end_row key d x y.0.1) z.origin z.group (traced_of u past c.queue traced z.number z there).group in
       let first : Chain u past key c.queue m.rows y.1 = moved_chain past to ms c.queue d t site (first_apart c.queue set most s.ordered) (first_stand c.queue set most s.ordered) (All-take (λ m. is_visible m ≡ true) most (all_available c.queue) (visible_available c.queue.settings.kind set c.queue.records)) in
-      record { chain = chain_append u past key m.rows (end_row key d x y.0.1) c.queue y.1 y.1 first (end_chain (past ++ m.rows) d y.1 x y.0.1 refl); actors = refl; sent = moves_fit d t y.0.0 h }
+      record { chain = chain_append u past key m.rows (end_row key d x y.0.1) c.queue y.1 y.1 first (end_chain (past ++ m.rows) d y.1 x y.0.1 refl); actors = refl; sent = moves_fit (past ++ (m.rows ++ end_row key d x y.0.1)) to ms c.queue d t h groups }

@@ -5,7 +5,7 @@ use Rattle.sqs_model.specs.Run.{IsRunOf, Run}
 use Rattle.sqs_model.specs.Scenario.{Scenario}
 use Rattle.sqs_model.specs.Valid.{IsQueueSettings}
 use Rattle.sqs_laws.specs.Laws.{KeepsTheRules}
-use Rattle.sqs_laws.proofs.Ages.{ages_are_told}
+use Rattle.sqs_laws.proofs.Retention.{messages_are_kept}
 use Rattle.sqs_laws.proofs.Delays.{delays_are_kept}
 use Rattle.sqs_laws.proofs.End.{ends_are_ends}
 use Rattle.sqs_laws.proofs.Fifo.{groups_are_in_order, sends_are_given}
@@ -25,7 +25,7 @@ keeps_the_rules s sound valid r is =
       dead_letters = letters_are_dead s valid r is;
       receipts = receipts_are_known s valid r is;
       origins = origins_are_told s r is;
-      ages = ages_are_told s r is;
+      retention = messages_are_kept s sound r is;
       sends = sends_are_given s r is;
       fifo = groups_are_in_order s sound r is;
       repeats = repeats_are_recent s sound r is;

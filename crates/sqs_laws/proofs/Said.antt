@@ -1,9 +1,9 @@
 -- What the rows so far say of a message, with one more row.
 use Rattle.std.specs.List.{list_any}
-use Rattle.std.specs.Prelude.{All, Bool, List, None, Option, Some, [], cond, count_by, false, true, ℕ, ◌&&◌, ◌+◌, ◌++◌, ◌<◌, ◌==◌, ◌∷◌, ◌≡◌, ◌≢◌, ◌≤◌, ◌||◌}
-use Rattle.std.proofs.Common.{ap, arith, refl, sym, ◌∙◌}
+use Rattle.std.specs.Prelude.{All, Bool, List, None, Some, [], cond, count_by, false, true, ℕ, ◌&&◌, ◌+◌, ◌++◌, ◌<◌, ◌==◌, ◌∷◌, ◌≡◌, ◌≢◌, ◌≤◌, ◌||◌}
+use Rattle.std.proofs.Common.{ap, arith, refl, ◌∙◌}
 use Rattle.std.proofs.Math.Bool.{or-false, or-true}
-use Rattle.std.proofs.lemmas.Bool.{eqb-true, ne_eqb, or_parts}
+use Rattle.std.proofs.lemmas.Bool.{eqb-true, or_parts}
 use Rattle.std.proofs.lemmas.Bool.Decides.{nat_tests}
 use Rattle.std.proofs.lemmas.List.Folds.{list_any-append}
 use Rattle.std.proofs.lemmas.List.Elements.{All-head, All-tail}
@@ -14,13 +14,12 @@ use Rattle.sqs_message.specs.declared.message.Message.{Message}
 use Rattle.sqs_message.specs.declared.row.Row.{Row}
 use Rattle.sqs_message.specs.declared.row.RowAnswer.{RowAnswer}
 use Rattle.sqs_message.specs.declared.row.RowAnswer.TheVariants as answers
-use Rattle.sqs_model.specs.Accounts.{same_id, is_deleted, is_expired}
+use Rattle.sqs_model.specs.Accounts.{is_deleted, is_expired}
 use Rattle.sqs_model.specs.Queue.{has_number, numbered}
 use Rattle.sqs_model.proofs.Ledger.{bit}
 use Rattle.sqs_model.proofs.Numbered.{Climbs}
 use Rattle.sqs_laws.specs.Words.{comes, comings, has_left, is_gone, is_new, leaves, names, received, times, is_redrive, is_move}
-pub use Rattle.sqs_laws.proofs.Naming.{names_id, names_other, names_same}
-use Rattle.sqs_laws.proofs.Worlds.{NamesOwn}
+pub use Rattle.sqs_laws.proofs.Naming.{last_as, names_apart, names_id, names_other, names_same}
 
 -- counts with one more
 pub count_push : {A : Type 0} (p : A → Bool) (xs : List A) (x : A) → count_by p (xs ++ x ∷ []) ≡ count_by p xs + bit (p x)
@@ -30,16 +29,6 @@ count_push {A} p xs x =
 
 pub any_push : {A : Type 0} (p : A → Bool) (xs : List A) (x : A) → list_any p (xs ++ x ∷ []) ≡ (list_any p xs || p x)
 any_push p xs x = list_any-append p xs (x ∷ []) ∙ ap (λ b. list_any p xs || b) (or-false (p x))
-
--- a row of another queue names no message of this one
-names_apart_by : (m : MessageId) (r : Row) (o : Option MessageId) → r.message ≡ o → NamesOwn r → r.queue ≢ m.site → names m r ≡ false
-names_apart_by m r None e own d = ap (same_id (Some m)) e
-names_apart_by m r (Some i) e own d =
-    let far : m.site ≢ i.site = λ s. d (sym (own i e) ∙ sym s) in
-    names_id m i r e ∙ ap (λ b. b && (m.number == i.number)) (ne_eqb m.site i.site far)
-
-pub names_apart : (m : MessageId) (r : Row) → NamesOwn r → r.queue ≢ m.site → names m r ≡ false
-names_apart m r own d = names_apart_by m r r.message refl own d
 
 -- what is new has not gone
 pub new_stays : (a : RowAnswer) → is_new a ≡ true → is_gone a ≡ false

@@ -17,10 +17,11 @@ use Rattle.sqs_model.specs.Scenario.{Scenario}
 use Rattle.sqs_model.proofs.Branches.{by_cases}
 use Rattle.sqs_model.proofs.Numbered.{other_without}
 use Rattle.sqs_laws.specs.Words.{names}
-use Rattle.sqs_laws.proofs.Calls.{found_old, other_changed, own_changed, pushed_found}
+use Rattle.sqs_laws.proofs.Calls.{found_old, other_changed, own_changed}
 use Rattle.sqs_laws.proofs.Moves.{Changes, Comes, Does, IsBehind, IsStocked, Names, Receives, Releases, Tells, changes, comes, ends, receives, redrives, releases, stays}
 use Rattle.sqs_laws.proofs.Said.{names_apart, names_other, not_there, pushed_other, taken_absent}
-use Rattle.sqs_laws.proofs.Worlds.{RowLaw}
+use Rattle.sqs_laws.proofs.Worlds.{IsNow, RowLaw}
+use Rattle.sqs_laws.proofs.Traces.{pushed_found}
 
 pub data Slot : Type 0 where
   unborn : Slot
@@ -41,13 +42,16 @@ pub record IsStep (s : Scenario) (rows : List Row) (key : Key) (q : Queue) (r : 
   pub at_site : r.queue ≡ q.site
   pub settings : slice_get s.queues q.site ≡ Some q.settings
   pub behind : IsBehind s rows q r p
+  pub now : IsNow s rows key q
 
 -- A law of messages. A row that names another one leaves what was said; each other field is a way in which a row changes its own.
 pub record MessageLaw (s : Scenario) : Type 1 where
   pub Said : QueueSettings → List Row → MessageId → Slot → Type 0
   pub opens : (q : QueueSettings) (i : MessageId) → Said q [] i unborn
   pub other : (q : QueueSettings) (rows : List Row) (r : Row) (i : MessageId) (x : Slot) → names i r ≡ false → Said q rows i x → Said q (rows ++ r ∷ []) i x
-  pub stays : (q : QueueSettings) (rows : List Row) (r : Row) (i : MessageId) (x : Slot) → Tells r false false false false false → r.message ≡ Some i → Said q rows i x → Said q (rows ++ r ∷ []) i x
+  pub stays :
+      (rows : List Row) (key : Key) (q : Queue) (r : Row) (p : Queue) → IsStep s rows key q r p → Tells r false false false false false → (n : ℕ) → r.message ≡ Some (id_of q n) → (x : Slot) → x ≡ slot q n
+      → Said q.settings rows (id_of q n) x → Said q.settings (rows ++ r ∷ []) (id_of q n) x
   pub comes :
       (rows : List Row) (key : Key) (q : Queue) (r : Row) (p : Queue) → IsStep s rows key q r p → (d : Comes key q r p) → numbered q.arrivals p.records ≡ Some d.one
       → Said q.settings rows (id_of q q.arrivals) unborn → Said q.settings (rows ++ r ∷ []) (id_of q q.arrivals) (there d.one)
@@ -60,7 +64,9 @@ pub record MessageLaw (s : Scenario) : Type 1 where
   pub releases :
       (rows : List Row) (key : Key) (q : Queue) (r : Row) (p : Queue) → IsStep s rows key q r p → (d : Releases key q r p)
       → Said q.settings rows (id_of q d.number) (there d.one) → Said q.settings (rows ++ r ∷ []) (id_of q d.number) (there (visible_again d.one))
-  pub leaves : (q : QueueSettings) (rows : List Row) (r : Row) (i : MessageId) (one : Message) → Tells r false false false false true → r.message ≡ Some i → Said q rows i (there one) → Said q (rows ++ r ∷ []) i gone
+  pub leaves :
+      (rows : List Row) (key : Key) (q : Queue) (r : Row) (p : Queue) → IsStep s rows key q r p → Tells r false false false false true → (one : Message) (n : ℕ) → Names key q r p one n
+      → Said q.settings rows (id_of q n) (there one) → Said q.settings (rows ++ r ∷ []) (id_of q n) gone
 
 -- a row that names a message has it
 named_by : (i : MessageId) (r : Row) (o : Option MessageId) → r.message ≡ o → names i r ≡ true → r.message ≡ Some i
@@ -93,12 +99,12 @@ module _ (s : Scenario) (law : MessageLaw s) where
       let none : numbered n q.records ≡ None = not_there n q.records (All-weaker (λ (m : Message). m.number < q.arrivals) (λ m. m.number < n) (λ m x. omega (arith, x, l)) q.records k.given_out) in
       subst (λ b. Said q.settings rows (id_of q n) (slot_of None b)) late (subst (λ o. Said q.settings rows (id_of q n) (slot_of o (nat_lt n q.arrivals))) none (h.each n))
 
-  module _ (rows : List Row) (key : Key) (q : Queue) (r : Row) (p : Queue) (k : IsStocked q) (at_key : r.key ≡ key) (at_site : r.queue ≡ q.site) (o : IsBehind s rows q r p) (h : Holds rows q) where
+  module _ (rows : List Row) (key : Key) (q : Queue) (r : Row) (p : Queue) (k : IsStocked q) (at_key : r.key ≡ key) (at_site : r.queue ≡ q.site) (o : IsBehind s rows q r p) (now : IsNow s rows key q) (h : Holds rows q) where
     abbrev Now : ℕ → Slot → Type 0
     Now n x = Said q.settings (rows ++ r ∷ []) (id_of q n) x
 
     step : IsStep s rows key q r p
-    step = record { at_key = at_key; at_site = at_site; settings = h.settings; behind = o }
+    step = record { at_key = at_key; at_site = at_site; settings = h.settings; behind = o; now = now }
 
     -- another message than the one that a row names, and that one
     holds_but : (n : ℕ) (x : Queue) → x.site ≡ q.site → x.settings ≡ q.settings → r.message ≡ Some (id_of q n) → ((i : ℕ) → i ≢ n → slot x i ≡ slot q i) → Now n (slot x n) → (i : ℕ) → Now i (slot x i)
@@ -125,7 +131,7 @@ module _ (s : Scenario) (law : MessageLaw s) where
           settings = h.settings;
           each =
               holds_but n (taken_out q n) refl refl d.message (λ i far. ap (λ x. slot_of x (nat_lt i q.arrivals)) (other_without n i q.records far))
-              (subst (Now n) (sym slotted) (law.leaves q.settings rows r (id_of q n) one t d.message (of_there rows q h n one d.there)));
+              (subst (Now n) (sym slotted) (law.leaves rows key q r p step t one n d (of_there rows q h n one d.there)));
         })
 
     same_born : (i : ℕ) → i ≢ q.arrivals → nat_lt i (q.arrivals + 1) ≡ nat_lt i q.arrivals
@@ -152,7 +158,7 @@ module _ (s : Scenario) (law : MessageLaw s) where
         record {
           settings = h.settings;
           each = λ n.
-              by_cases (names (id_of q n) r) (λ e. law.stays q.settings rows r (id_of q n) (slot q n) t (named_by (id_of q n) r r.message refl e) (h.each n))
+              by_cases (names (id_of q n) r) (λ e. law.stays rows key q r p step t n (named_by (id_of q n) r r.message refl e) (slot q n) refl (h.each n))
               (λ e. law.other q.settings rows r (id_of q n) (slot q n) e (h.each n));
         }
 
@@ -174,7 +180,7 @@ module _ (s : Scenario) (law : MessageLaw s) where
       record {
         Holds = Holds;
         Meets = λ rows r. Unit {0};
-        moves = λ rows key q r p by m g k h. (tt, does_hold rows key q r p k m.at_key m.at_site g h m.does);
+        moves = λ rows key q r p by m g k h. (tt, does_hold rows key q r p k m.at_key m.at_site g by h m.does);
         apart = λ rows r q d own h. record { settings = h.settings; each = λ n. law.other q.settings rows r (id_of q n) (slot q n) (names_apart (id_of q n) r own d) (h.each n) };
         opens = λ n settings e. record { settings = e; each = λ i. (let none : nat_lt i 0 ≡ false = grind (arith, nat_tests) in subst (λ b. Said settings [] (record { site = n; number = i }) (slot_of None b)) (sym none) (law.opens settings (record { site = n; number = i }))) };
       }

@@ -1,7 +1,7 @@
 -- The rules of SQS as laws of the log: of its rows, in order, and of the settings of its scenario, and of nothing
 -- else.
 use Rattle.std.specs.List.{range_with_len}
-use Rattle.std.specs.Prelude.{All, Bool, IsTrue, List, None, Some, count_by, false, flat_map, length, map, true, if◌then◌else◌, nat_le, nat_lt, not, slice_get, ℕ, ◌&&◌, [], ◌*◌, ◌+◌, ◌++◌, ◌-◌, ◌<◌, ◌==◌, ◌∷◌, ◌≡◌, ◌≤◌, ◌⊎◌, ◌||◌, Option}
+use Rattle.std.specs.Prelude.{All, Bool, IsTrue, List, None, Some, count_by, false, flat_map, length, map, max, suc, true, zero, if◌then◌else◌, nat_le, nat_lt, not, slice_get, ℕ, ◌&&◌, [], ◌*◌, ◌+◌, ◌++◌, ◌-◌, ◌<◌, ◌==◌, ◌∷◌, ◌≡◌, ◌≤◌, ◌⊎◌, ◌||◌, Option}
 use Rattle.sim_clock.specs.declared.refusal.Refusal.TheVariants as refusals
 use Rattle.sqs_message.specs.declared.ids.MessageId.{MessageId}
 use Rattle.sqs_message.specs.declared.ids.Origin.{Origin}
@@ -13,17 +13,18 @@ use Rattle.sqs_message.specs.declared.row.RowReceipt.TheVariants as receipts
 use Rattle.sqs_message.specs.Ids.{read_receipt}
 use Rattle.sqs_redrive.specs.declared.settings.Kind.{Kind}
 use Rattle.sqs_redrive.specs.declared.settings.Kind.TheVariants.{Fifo, Standard}
+use Rattle.sqs_redrive.specs.declared.settings.Latency.{Latency}
 use Rattle.sqs_redrive.specs.declared.settings.Policy.{Policy}
 use Rattle.sqs_redrive.specs.declared.settings.QueueSettings.{QueueSettings}
 use Rattle.md5.specs.Md5.{md5}
 use Rattle.sqs_model.specs.declared.agents.ActorSettings.{ActorSettings}
-use Rattle.sqs_model.specs.Accounts.{is_deleted, is_expired}
+use Rattle.sqs_model.specs.Accounts.{is_deleted, is_expired, origin_in}
 use Rattle.sqs_model.specs.declared.finals.FinalMessage.{FinalMessage}
 use Rattle.sqs_model.specs.declared.finals.FinalTransfer.{FinalTransfer}
-use Rattle.sqs_model.specs.Longest.{deduplication_interval}
+use Rattle.sqs_model.specs.Longest.{deduplication_interval, longest_flight}
 use Rattle.sqs_model.specs.Scenario.{Scenario, least_latency}
-use Rattle.sqs_laws.specs.Sends.{AsksFor, Given, GivesAs, IsByCall, IsSender, WasGiven, delay_given, key_given, milliseconds_or}
-use Rattle.sqs_laws.specs.Words.{EachNaming, EachRow, arrives_at, came_by, changed, comes, comings, flight, flying, goes_to, has_left, in_flight_at, is_change, is_delete, is_gone, is_in_flight, is_move, is_redrive, is_release, is_repeat, is_send, may_follow, origin_of, received, sent_by, that_stay, times, touches, was_released}
+use Rattle.sqs_laws.specs.Sends.{AsksFor, Given, GivesAs, IsByCall, IsSender, delay_given, key_given, milliseconds_or}
+use Rattle.sqs_laws.specs.Words.{EachNaming, EachRow, accepted_by, arrives_at, came_by, changed, comes, comings, flight, flying, goes_to, has_left, in_flight_at, is_arrive, is_change, is_delete, is_gone, is_in_flight, is_move, is_redrive, is_release, is_repeat, is_send, may_follow, origin_of, received, received_by, that_stay, times, touches, was_released}
 
 -- The end is the end. The messages that come to a queue are numbered from 0 on, and no row names one before it comes.
 -- Once it was deleted, has expired, or left for another queue, only answers gone and repeat and a consumer's fail and
@@ -40,15 +41,33 @@ pub record TheEnd (rows : List Row) : Type 0 where
 abbrev pub HasPolicy : Scenario → Row → Policy → Type 0
 HasPolicy s r p = (q : QueueSettings) × (slice_get s.queues r.queue ≡ Some q) × (q.policy ≡ Some p)
 
+-- what left at one moment may arrive at another: after the least latency or later, and just then if no other is allowed
+abbrev pub MayArrive : Latency → ℕ → ℕ → Type 0
+MayArrive l left at = (left + l.least ≤ at) × (l.greatest ≤ l.least → at ≡ left + l.least)
+
+-- a message left its queue by one row as the dead letter that came to another queue by a later row: it had the same
+-- origin, and took the latency of its queue
+pub record IsDeadLetter (s : Scenario) (rows before : List Row) (by left : Row) (m : MessageId) : Type 0 where
+  pub after : List Row
+  pub split : rows ≡ before ++ (left ∷ after)
+  pub redriven : IsTrue (is_redrive left.kind)
+  pub named : left.message ≡ Some m
+  pub from : left.queue ≡ by.agent
+  pub to : left.detail ≡ details.Queue by.queue
+  pub late : (p : Policy) → HasPolicy s left p → MayArrive p.latency left.key.at by.key.at
+  pub origin : origin_of m before ≡ origin_in by by.message
+
 -- Dead letters. A message that comes back leaves for its queue's dead_letter if it was received exactly max_receives
 -- times since it came, and is released if fewer times. It is never received more often. Without dead_letter none
--- leaves.
+-- leaves. What arrives from a queue left it so before.
 pub record DeadLetters (s : Scenario) (rows : List Row) : Type 0 where
   pub leaves : EachNaming rows (λ before r m. IsTrue (is_redrive r.kind)
       → (p : Policy) × HasPolicy s r p
       × (times m before ≡ p.max_receives) × (r.detail ≡ details.Queue p.dead_letter))
   pub stays : EachNaming rows (λ before r m. IsTrue (is_release r.kind || received r)
       → (p : Policy) → HasPolicy s r p → times m before < p.max_receives)
+  pub arrives : EachRow rows (λ before r. IsTrue (is_arrive r.kind && comes r) → r.agent < length s.queues
+      → (left : Row) × (earlier : List Row) × (m : MessageId) × IsDeadLetter s before earlier r left m)
 
 -- a receipt of the queue of a row and of a message that came there, with the count of a receive
 pub record Known (before : List Row) (r : Row) (m : MessageId) (count : ℕ) : Type 0 where
@@ -118,14 +137,43 @@ pub record Origins (rows : List Row) : Type 0 where
   pub told : EachNaming rows (λ before r m. IsTrue (received r)
       → (o : Origin) × (origin_of m before ≡ Some o) × (r.detail ≡ details.From o))
 
--- Ages. Of a message that was sent to its queue a delete or an expiry tells how long ago that was. If it expires, that
--- is exactly at the end of the queue's retention period; that it does is not said.
-pub record Ages (s : Scenario) (rows : List Row) : Type 0 where
-  pub told : EachNaming rows (λ before r m. IsTrue (is_deleted r.answer || is_expired r.answer)
-      → (sent : Row) → sent_by m before ≡ Some sent → r.detail ≡ details.Age (r.key.at - sent.key.at))
-  pub expiry : EachNaming rows (λ before r m. IsTrue (is_expired r.answer)
-      → (sent : Row) → sent_by m before ≡ Some sent
-      → (q : QueueSettings) → slice_get s.queues r.queue ≡ Some q → r.key.at ≡ sent.key.at + q.retention)
+-- whether a message that came by a row keeps the age that it had: a dead letter at a standard queue does
+abbrev pub keeps_age : Scenario → Row → Bool
+keeps_age s by = (is_arrive by.kind && nat_lt by.agent (length s.queues)) && not (fifo_at s by)
+
+-- a message counts as enqueued at a moment, and has kept its age so many times since as a dead letter
+abbrev pub EnqueuedAfter : Scenario → ℕ → List Row → MessageId → ℕ → Type 0
+EnqueuedAfter s zero rows m moment =
+    (by : Row) × (came_by m rows ≡ Some by) × (keeps_age s by ≡ false) × (moment ≡ by.key.at)
+EnqueuedAfter s (suc times) rows m moment =
+    (by : Row) × (came_by m rows ≡ Some by) × IsTrue (keeps_age s by)
+    × (left : Row) × (before : List Row) × (letter : MessageId) × IsDeadLetter s rows before by left letter
+    × EnqueuedAfter s times before letter moment
+
+abbrev pub EnqueuedAt : Scenario → List Row → MessageId → ℕ → Type 0
+EnqueuedAt s rows m moment = (times : ℕ) × EnqueuedAfter s times rows m moment
+
+-- what a row tells of a message in its queue that counts as enqueued at a moment, until the end of its retention
+pub record TellsAge (r : Row) (moment end : ℕ) : Type 0 where
+  pub over : r.key.at ≤ end
+  pub expires : IsTrue (is_expired r.answer) → r.key.at ≡ end
+  pub age : IsTrue (is_deleted r.answer || is_expired r.answer) → r.detail ≡ details.Age (r.key.at - moment)
+
+-- a message that came by a row is in its queue until an end at the latest, which is past the horizon if it stays
+pub record IsKeptUntil (s : Scenario) (rows : List Row) (m : MessageId) (by : Row) (moment end : ℕ) : Type 0 where
+  pub enqueued : EnqueuedAt s rows m moment
+  pub there : EachNaming rows (λ before r n. n ≡ m → came_by m before ≡ Some by → has_left m before ≡ false
+      → TellsAge r moment end)
+  pub at_last : has_left m rows ≡ false → s.horizon < end
+
+-- Retention. A message counts as enqueued when it comes to a queue; but a dead letter at a standard queue, as long ago
+-- as the message that left for it. Its retention ends so long after, but not before it comes. It expires exactly then:
+-- no row from after that moment names it as there, and that of what is left at the end lies past the horizon. A delete
+-- or an expiry tells the age.
+pub record Retention (s : Scenario) (rows : List Row) : Type 0 where
+  pub kept : (m : MessageId) (by : Row) (q : QueueSettings) → came_by m rows ≡ Some by
+      → slice_get s.queues m.site ≡ Some q
+      → (moment : ℕ) × IsKeptUntil s rows m by moment (max by.key.at (moment + q.retention))
 
 -- Sends. A message that a script or a producer sent to its queue is what it gives at that moment, and the row tells the
 -- digest of its body.
@@ -134,15 +182,24 @@ pub record Sends (s : Scenario) (rows : List Row) : Type 0 where
       → (a : ActorSettings) → slice_get s.actors (r.agent - length s.queues) ≡ Some a → IsSender a.role
       → (x : Given) × GivesAs s r.agent r.key.at x × (r.detail ≡ details.Digest (md5 x.body)))
 
+-- a message has this group: with it the message of its origin was sent to a FIFO queue
+pub record HasGroup (s : Scenario) (rows : List Row) (m : MessageId) (group : List ℕ) : Type 0 where
+  pub origin : Origin
+  pub told : origin_of m rows ≡ Some origin
+  pub by : Row
+  pub accepted : accepted_by origin rows ≡ Some by
+  pub sent : IsTrue (is_send by.kind && fifo_at s by)
+  pub given : (x : Given) × GivesAs s by.agent by.key.at x × (x.group ≡ Some group)
+
 -- FIFO. When a message of a FIFO queue is received, each message of its group that came before it and is still in the
--- queue was received by the same call; and no message of the group that came after it is in flight. Two messages are of
--- one group if both were sent to the queue with it.
+-- queue was received by the same call; and no message of the group that came after it is in flight. This is of messages
+-- that were sent to a FIFO queue, also when they came on as dead letters or by a move task.
 pub record FifoOrder (s : Scenario) (rows : List Row) : Type 0 where
   pub before : EachNaming rows (λ before r m. IsTrue (received r && fifo_at s r)
-      → (n : MessageId) (g : List ℕ) → n.site ≡ r.queue → WasGiven s before m g → WasGiven s before n g
+      → (n : MessageId) (g : List ℕ) → n.site ≡ r.queue → HasGroup s before m g → HasGroup s before n g
       → n.number < m.number → has_left n before ≡ false → IsByCall r (flight n before))
   pub after : EachNaming rows (λ before r m. IsTrue (received r && fifo_at s r)
-      → (n : MessageId) (g : List ℕ) → n.site ≡ r.queue → WasGiven s before m g → WasGiven s before n g
+      → (n : MessageId) (g : List ℕ) → n.site ≡ r.queue → HasGroup s before m g → HasGroup s before n g
       → m.number < n.number → flying n before ≡ false)
 
 -- two rows send the same to a queue: what their actors give has one deduplication id and one scope
@@ -173,9 +230,9 @@ pub record Repeats (s : Scenario) (rows : List Row) : Type 0 where
 abbrev pub is_actor_of : Scenario → ℕ → Bool
 is_actor_of s n = nat_le (length s.queues) n && nat_lt n (length s.queues + length s.actors)
 
--- a message was sent to its queue by a row, or arrived from an actor, which forwarded another one
-abbrev pub was_sent : Scenario → Row → Bool
-was_sent s by = is_send by.kind || is_actor_of s by.agent
+-- the delay of what arrives at a queue: the queue's if an actor forwarded it, and none if it was redriven or moved
+abbrev pub delay_brought : Scenario → QueueSettings → Row → ℕ
+delay_brought s q by = if is_actor_of s by.agent then q.delay else 0
 
 -- a message came to its queue by a row, with this delay: of what was sent it is the one given, and else the queue's
 pub record CameWith (s : Scenario) (rows : List Row) (m : MessageId) (by : Row) (delay : ℕ) : Type 0 where
@@ -183,23 +240,22 @@ pub record CameWith (s : Scenario) (rows : List Row) (m : MessageId) (by : Row) 
   pub settings : slice_get s.queues m.site ≡ Some queue
   pub came : came_by m rows ≡ Some by
   pub sent : IsTrue (is_send by.kind) → (x : Given) × GivesAs s by.agent by.key.at x × (delay ≡ delay_given queue x)
-  pub arrived : is_send by.kind ≡ false → delay ≡ queue.delay
+  pub arrived : is_send by.kind ≡ false → delay ≡ delay_brought s queue by
 
--- a message was sent or forwarded with a delay, and is neither released yet nor gone
+-- a message came with a delay, and is neither released yet nor gone
 pub record IsDelayed (s : Scenario) (rows : List Row) (m : MessageId) (by : Row) (delay : ℕ) : Type 0 where
-  pub sent : IsTrue (was_sent s by)
   pub came : CameWith s rows m by delay
   pub some : 0 < delay
   pub waits : was_released m rows ≡ false
   pub there : has_left m rows ≡ false
 
--- Delays. A message that was sent or forwarded is not received, changed, released, redriven or moved before its delay
--- is over. What is released and was not in flight is so exactly at the end of its delay, once. While a delay goes on
--- its queue has no row from after its end, and it goes on past the horizon if it does so at the end of the log.
+-- Delays. A message is not received, changed, released, redriven or moved before its delay is over; one that was
+-- redriven or moved has none. What is released and was not in flight is so exactly at the end of its delay, once. While
+-- a delay goes on its queue has no row from after its end, and it goes on past the horizon if it does so at the end of
+-- the log.
 pub record Delays (s : Scenario) (rows : List Row) : Type 0 where
   pub over : EachNaming rows (λ before r m. IsTrue (touches r)
-      → (by : Row) (delay : ℕ) → CameWith s before m by delay → IsTrue (was_sent s by)
-      → by.key.at + delay ≤ r.key.at)
+      → (by : Row) (delay : ℕ) → CameWith s before m by delay → by.key.at + delay ≤ r.key.at)
   pub ends : EachNaming rows (λ before r m. IsTrue (is_release r.kind) → flying m before ≡ false
       → (by : Row) (delay : ℕ) → CameWith s before m by delay
       → (was_released m before ≡ false) × (0 < delay) × (r.key.at ≡ by.key.at + delay))
@@ -217,7 +273,7 @@ pub record EndsAt (s : Scenario) (f : Row) (end : ℕ) : Type 0 where
 
 -- Releases. A message in flight is released, or leaves for the dead-letter queue, exactly at the end of the timeout of
 -- its last receive or change. While it is in flight its queue has no row from after that, and at the end of the log it
--- ends past the horizon.
+-- ends past the horizon. No change ends later than 12 hours after the last receive.
 pub record Releases (s : Scenario) (rows : List Row) : Type 0 where
   pub ends : EachNaming rows (λ before r m. IsTrue (is_release r.kind || is_redrive r.kind)
       → (f : Row) → flight m before ≡ Some f → EndsAt s f r.key.at)
@@ -225,6 +281,8 @@ pub record Releases (s : Scenario) (rows : List Row) : Type 0 where
       → (end : ℕ) × EndsAt s f end × (r.key.at ≤ end))
   pub at_last : (m : MessageId) (q : QueueSettings) (f : Row) → slice_get s.queues m.site ≡ Some q
       → flight m rows ≡ Some f → (end : ℕ) × EndsAt s f end × (s.horizon < end)
+  pub longest : EachNaming rows (λ before r m. IsTrue (changed r) → (seconds : ℕ) → r.detail ≡ details.Timeout seconds
+      → (f : Row) × (received_by m before ≡ Some f) × (r.key.at + 1000 * seconds ≤ f.key.at + longest_flight))
 
 -- Time. Rows are in the order of time, none after the horizon.
 pub record InTime (s : Scenario) (rows : List Row) : Type 0 where
@@ -238,7 +296,7 @@ pub record KeepsTheRules (s : Scenario) (rows : List Row) : Type 0 where
   pub dead_letters : DeadLetters s rows
   pub receipts : Receipts s rows
   pub origins : Origins rows
-  pub ages : Ages s rows
+  pub retention : Retention s rows
   pub sends : Sends s rows
   pub fifo : FifoOrder s rows
   pub repeats : Repeats s rows

@@ -5,7 +5,6 @@ use Rattle.sim_engine.specs.Members.{In}
 use Rattle.sqs_message.specs.declared.calls.Call.{Call}
 use Rattle.sqs_message.specs.declared.calls.Call.TheVariants as calls
 use Rattle.sqs_message.specs.declared.calls.ScriptCall.{ScriptCall}
-use Rattle.sqs_message.specs.declared.ids.MessageId.{MessageId}
 use Rattle.sqs_message.specs.declared.row.Row.{Row}
 use Rattle.sqs_model.specs.declared.agents.ActorSettings.{ActorSettings}
 use Rattle.sqs_model.specs.declared.agents.ProducerSettings.{ProducerSettings}
@@ -21,7 +20,6 @@ use Rattle.sqs_model.specs.Actor.{group_of, id_given}
 use Rattle.sqs_model.specs.Calls.{deduplication_id}
 use Rattle.sqs_model.specs.Draw.{Draws, drawn_time}
 use Rattle.sqs_model.specs.Scenario.{Scenario, opening_draws}
-use Rattle.sqs_laws.specs.Words.{sent_by}
 
 -- what a send gives: a body, a delay of its own in seconds, a group and a deduplication id
 pub record Given : Type 0 where
@@ -111,11 +109,6 @@ abbrev pub AsksFor : Scenario → ℕ → ℕ → Option ℕ → Type 0
 AsksFor s agent at timeout =
     (a : ActorSettings) × (slice_get s.actors (agent - length s.queues) ≡ Some a)
     × AsksBy (MayGiveAt at timeout) a.role timeout
-
--- a message was sent to its queue with this group
-abbrev pub WasGiven : Scenario → List Row → MessageId → List ℕ → Type 0
-WasGiven s rows m g =
-    (r : Row) × (sent_by m rows ≡ Some r) × (x : Given) × GivesAs s r.agent r.key.at x × (x.group ≡ Some g)
 
 -- the scope of what is given, which is its group or the whole queue, and its deduplication id: its own, or of its body
 abbrev pub scope_given : Scope → Option (List ℕ) → Option (List ℕ)

@@ -1,6 +1,6 @@
 -- What rows say: their kinds and answers, and what the rows before one row say of its message.
 use Rattle.std.specs.List.{list_any, range_with_len}
-use Rattle.std.specs.Prelude.{Bool, List, None, Option, Some, count_by, false, filter, fold, if◌then◌else◌, is_some, map, not, true, ℕ, ◌&&◌, ◌++◌, ◌==◌, ◌∷◌, ◌≡◌, ◌||◌}
+use Rattle.std.specs.Prelude.{Bool, List, None, Option, Some, count_by, false, filter, find, fold, if◌then◌else◌, is_some, map, not, true, ℕ, ◌&&◌, ◌++◌, ◌==◌, ◌∷◌, ◌≡◌, ◌||◌}
 use Rattle.sqs_message.specs.declared.ids.MessageId.{MessageId}
 use Rattle.sqs_message.specs.declared.ids.Origin.{Origin}
 use Rattle.sqs_message.specs.declared.message.Place.{Place}
@@ -12,7 +12,7 @@ use Rattle.sqs_message.specs.declared.row.RowAnswer.{RowAnswer}
 use Rattle.sqs_message.specs.declared.row.RowAnswer.TheVariants as answers
 use Rattle.sqs_message.specs.declared.row.RowKind.{RowKind}
 use Rattle.sqs_message.specs.declared.row.RowKind.TheVariants as kinds
-use Rattle.sqs_model.specs.Accounts.{is_deleted, is_expired, origin_in, same_id}
+use Rattle.sqs_model.specs.Accounts.{is_deleted, is_expired, is_first, origin_in, same_id}
 
 -- kinds of rows
 abbrev pub is_send : RowKind → Bool
@@ -136,13 +136,20 @@ was_released m rows = list_any (λ r. is_release r.kind && names m r) rows
 abbrev pub origin_of : MessageId → List Row → Option Origin
 origin_of m rows = fold (λ o r. if comes r && names m r then origin_in r (Some m) else o) None rows
 
--- the row by which a message came to its queue, if it did
-abbrev pub came_by : MessageId → List Row → Option Row
-came_by m rows = fold (λ t r. if comes r && names m r then Some r else t) None rows
+-- the last of some rows that name a message, if there is one
+abbrev pub last_naming : (Row → Bool) → MessageId → List Row → Option Row
+last_naming such m rows = fold (λ t r. if such r && names m r then Some r else t) None rows
 
--- the row by which a message was sent to its queue, if it was
-abbrev pub sent_by : MessageId → List Row → Option Row
-sent_by m rows = fold (λ t r. if (is_send r.kind && comes r) && names m r then Some r else t) None rows
+-- the row by which a message came to its queue, and by which it was last received
+abbrev pub came_by : MessageId → List Row → Option Row
+came_by m rows = last_naming comes m rows
+
+abbrev pub received_by : MessageId → List Row → Option Row
+received_by m rows = last_naming received m rows
+
+-- the row by which the message of an origin was accepted: it was sent, or a forward arrived
+abbrev pub accepted_by : Origin → List Row → Option Row
+accepted_by o rows = find (is_first o) rows
 
 -- the receive or change by which a message is in flight, if it is
 abbrev pub flight : MessageId → List Row → Option Row
