@@ -17,11 +17,12 @@ use Rattle.sim_report.specs.declared.peak.Peak.{Peak}
 use Rattle.sim_report.specs.declared.polls.Given.{Given}
 use Rattle.sim_report.specs.declared.stretch.Stretch.{Stretch}
 use Rattle.sim_report.specs.Facts.{fact_of, place_in}
-use Rattle.sim_report.specs.Figures.{FiguresAsked, Often, age_before, begins_backlog, begins_batch, begins_receive, comes_in, count_names, count_of_row, counts_of, ends_backlog, flight_of, flying, flying_with, given_by, gives, handles, held_by, higher, hold_of, in_flight, is_backlog, is_full, is_moved, is_serving, is_within, last_moment, levels_from, message_of, moved_here, moved_with, never, no_windows, number_of, often, oldest_before, once_more, overlap, own_receipt, peak_of, rows_before, rows_by, rows_of_new, rows_until, rows_where, rows_within, there, there_by, there_with, time_from, time_while, tries, tries_of, tries_when, unused_with, use_of, waiting_with, window_of, windows, windows_by, windows_with}
+use Rattle.sim_report.specs.Figures.{FiguresAsked, Often, age_before, begins_backlog, begins_batch, begins_receive, comes_in, count_names, count_of_row, counts_of, ends_backlog, flight_of, flying, flying_with, given_by, gives, handled, handles, held_by, higher, hold_of, in_flight, is_backlog, is_full, is_moved, is_serving, is_within, last_moment, levels_from, message_of, moved_here, moved_with, never, no_windows, number_of, often, oldest_before, once_more, overlap, own_receipt, peak_of, rows_before, rows_by, rows_of_new, rows_until, rows_where, rows_within, there, there_by, there_with, time_from, time_while, tries, tries_of, tries_when, unused, use_of, waiting_with, window_of, windows, windows_by, windows_with}
 use Rattle.sim_report.specs.Figured.{actor_state, actor_with, aged_if, aged_of, backlogs_of, backlogs_with, begins_by, depth_at, figured, figured_before, figures_after, figures_counting, figures_with, handled_of, handled_with, has_begun, last_at, lasting_of, lasting_until, lasting_with, level_of, level_with, more_if, one_in, peak_with, polls_of, polls_with, queue_changing, queue_counting, queue_judging, queue_peaking, queue_state, queue_timing, queue_with, time_to_last, tries_if, tries_with}
 use Rattle.sim_report.specs.Running.{changed}
 use Rattle.sim_report.specs.Tally.{age_in, counted, with_age}
 use Rattle.sim_report.proofs.Groups.{filter-push, grouped, grouped-at, grouped-later}
+use Rattle.sim_report.proofs.Unused.{handled-parts, parts-push}
 use Rattle.sim_report.proofs.Tallies.{ages-push, columns-push, count-push}
 
 one-more : (b : Bool) (n : ℕ) → cond b (n + 1) n ≡ n + cond b 1 0
@@ -304,10 +305,12 @@ often-push holds number s rows row =
 -- what is handled with one more row
 handled-push : (s : Stretch) (rows : List Row) (row : Row) → handled_of s (rows ++ row ∷ []) ≡ handled_with (is_within s row) (fact_of row) (handled_of s rows)
 handled-push s rows row =
-    let unused = fold_push (λ rs (r : Row). unused_with (use_of r.kind r.answer) (own_receipt r) rs) [] rows row in
-    let handled = often-push handles (λ r. message_of (own_receipt r)) s rows row in
+    let handling =
+    often-push handles (λ r. message_of (own_receipt r)) s rows row
+    ∙ ap (λ more. cond (is_within s row) (more_if more (message_of (own_receipt row)) (handled s rows)) (handled s rows))
+    (handled-parts (use_of row.kind row.answer) (own_receipt row) (unused rows)) in
     let received = often-push (λ before r. gives (use_of r.kind r.answer)) (λ r. number_of r.message) s rows row in
-    rw (unused, handled, received) refl
+    rw (parts-push rows row, handling, received) refl
 
 -- how long something held up to the last row, with one more row
 time-push : (holds : List Row → Bool) (s : Stretch) (before : List Row) (at : ℕ) (rows : List Row) (row : Row)

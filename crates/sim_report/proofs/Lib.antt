@@ -1,11 +1,13 @@
 pub mod Ascending
-pub mod Counted
-pub mod Tallies
-pub mod Groups
 pub mod Comparing
-pub mod Figuring
-mod Marked
-mod Placed
-mod Named
+pub mod Counted
 mod FiguresEnd
+pub mod Figuring
+pub mod Groups
+pub mod Kept
+mod Marked
+mod Named
+mod Placed
 pub mod Reporting
+pub mod Tallies
+pub mod Unused

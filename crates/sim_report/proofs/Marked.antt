@@ -198,6 +198,10 @@ is_at-is n m = go (nat_lt n m) (n == m) refl refl
     go false true e f = grind (arith, nat_tests)
     go false false e f = grind (arith, nat_tests)
 
+pub any-is : (n : ℕ) (ns : List ℕ) → list_any (is_at (nat_cmp n)) ns ≡ list_any (λ m. m == n) ns
+any-is n [] = refl
+any-is n (m ∷ ns) = rw (is_at-is n m, any-is n ns) refl
+
 pub any-low : (n first : ℕ) (low : List ℕ) (bs : List Bool) → n < first
     → list_any (is_at (nat_cmp n)) low ≡ list_any (λ m. m == n) (numbered low first bs)
 any-low n first [] bs h = sym (any-before n first bs h)

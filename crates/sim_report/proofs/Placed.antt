@@ -19,11 +19,6 @@ placed-trail more first [] = placed-none more first
 placed-trail more first (Some v ∷ slots) = ap (λ (ms : List (ℕ × ℕ)). (first, v) ∷ ms) (placed-trail more (first + 1) slots)
 placed-trail more first (None ∷ slots) = placed-trail more (first + 1) slots
 
--- the first number may stop at a greatest one if no slot is behind it
-pub placed-next : (next first : ℕ) (slots : List (Option ℕ)) → (0 < length slots → next ≡ first + 1) → placed next slots ≡ placed (first + 1) slots
-placed-next next first [] e = refl
-placed-next next first (slot ∷ slots) e = ap (λ (n : ℕ). placed n (slot ∷ slots)) (e (omega arith))
-
 -- a number before all of them
 insert-before : (n v first : ℕ) (slots : List (Option ℕ)) → n < first → insert_entry nat_cmp (placed first slots) n v ≡ (n, v) ∷ placed first slots
 insert-before n v first [] h = refl
@@ -156,13 +151,6 @@ pub remove-behind : (n first : ℕ) (low : List (ℕ × ℕ)) (slots : List (Opt
     → remove_entry (is_at (nat_cmp n)) (tabled low first slots) ≡ tabled low first slots
 remove-behind n first low slots a f h =
     remove-past_low n low (placed first slots) (lower n first low f a) ∙ ap (λ (ms : List (ℕ × ℕ)). low ++ ms) (remove-past n first slots h)
-
--- the value of the first of all, where the first slot has one
-pub first-placed : (n first : ℕ) (slots : List (Option ℕ)) → BeginsFilled slots
-    → option_map (λ (m : ℕ × ℕ). m.1) (slice_get (placed n slots) 0) ≡ option_map (λ (m : ℕ × ℕ). m.1) (slice_get (placed first slots) 0)
-first-placed n first [] f = refl
-first-placed n first (Some v ∷ slots) f = refl
-first-placed n first (None ∷ slots) f = absurd f
 
 -- one more of the slots
 pub placed-some : (i first : ℕ) (slots : List (Option ℕ)) (v : ℕ) (d : Option ℕ) → i < length slots → get_or slots i d ≡ Some v

@@ -1,11 +1,14 @@
 -- What the figures need of a row.
-use Rattle.std.specs.Prelude.{ℕ, nat_lt, Option}
+use Rattle.std.specs.Prelude.{ℕ, nat_lt, Option, Some}
 use Rattle.sqs_message.specs.declared.row.Row.{Row}
 use Rattle.sqs_message.specs.declared.row.RowAnswer.{RowAnswer}
 use Rattle.sqs_message.specs.declared.row.RowKind.{RowKind}
 use Rattle.sqs_formats.specs.Report.{column}
 use Rattle.sim_report.specs.declared.fact.Fact.{Fact}
+use Rattle.sim_report.specs.declared.fact.Flight.TheVariants.{Stays}
+use Rattle.sim_report.specs.declared.fact.Hold.TheVariants.{Keeps}
 use Rattle.sim_report.specs.declared.fact.Saying.{Saying}
+use Rattle.sim_report.specs.declared.fact.Use.TheVariants.{Passes}
 use Rattle.sim_report.specs.Figures.{by_way, counted_as, flight_of, hold_of, is_own, number_of, own_receipt, use_of}
 use Rattle.sim_report.specs.Tally.{count_of}
 
@@ -19,6 +22,11 @@ saying_of kind answer =
       flight = flight_of kind answer;
       handling = use_of kind answer;
     }
+
+-- what a row says that changes nothing but counts
+abbrev pub counts_alone : Option ℕ → ℕ → Saying
+counts_alone column place =
+    record { column = column; place = Some place; hold = Keeps; flight = Stays; handling = Passes }
 
 -- what a row says
 abbrev pub fact_of : Row → Fact

@@ -1,6 +1,10 @@
 -- The running figures of queues and actors.
-use Rattle.std.specs.Prelude.{ℕ, ◌+◌, ◌-◌, ◌==◌, ◌&&◌, nat_le, nat_lt, not, Bool, true, false, codes, cond, max, List, [], ◌∷◌, ◌++◌, fold, length, map, option_map, sum, zip, Option, Some, None}
+use Rattle.std.specs.Prelude.{ℕ, ◌+◌, ◌-◌, ◌==◌, ◌&&◌, nat_le, nat_lt, not, Bool, true, false, codes, cond, max, List, [], ◌∷◌, ◌++◌, filter_map, fold, length, map, option_map, sum, zip, Option, Some, None}
+use Rattle.std.specs.BTreeMap.{is_at}
+use Rattle.std.specs.BTreeSet.{insert_key}
 use Rattle.std.specs.List.{enumerate_from, list_any}
+use Rattle.std.specs.Ordering.{nat_cmp}
+use Rattle.std.specs.Set.{remove_key}
 use Rattle.sqs_message.specs.declared.row.Row.{Row}
 use Rattle.sqs_formats.specs.Report.{ages, ascending, count, depth, is_column, numbers, put, rows_of}
 use Rattle.sim_report.specs.declared.fact.Fact.{Fact}
@@ -12,12 +16,14 @@ use Rattle.sim_report.specs.declared.stretch.Stretch.{Stretch}
 use Rattle.sim_report.specs.declared.held.Held.{Held}
 use Rattle.sim_report.specs.declared.lasting.Lasting.{Lasting}
 use Rattle.sim_report.specs.declared.level.Level.{Level}
+use Rattle.sim_report.specs.declared.fact.Use.{Use}
+use Rattle.sim_report.specs.declared.fact.Use.TheVariants.{Calls, Deletes, Gives, Passes}
 use Rattle.sim_report.specs.declared.peak.Peak.{Peak}
 use Rattle.sim_report.specs.declared.polls.Polls.{Polls}
 use Rattle.sim_report.specs.declared.tries.Tries.{Tries}
 use Rattle.sim_report.specs.declared.windows.Worst.{Worst}
 use Rattle.sim_report.specs.Facts.{fact_of, place_in}
-use Rattle.sim_report.specs.Figures.{Figure, FiguresAsked, Often, age_by, age_names, age_of_oldest, ages_at, apart, batches, begins_backlog, bound_names, bound_numbers, comes_in, count_names, counts_of, ends_backlog, figure_fields, flying, flying_with, given_by, gives, handled, held_after, held_with, higher, in_flight, is_asked, is_first, is_full, is_given, is_handled, is_serving, last_given, last_moment, message_of, moved_by, moved_here, named_counts, named_oldest, named_peak, named_often, named_requests, named_services, named_tries, never, no_windows, oldest_before, once_more, overlap, peak_of, rank_in, received, receives_asked, rows_by, rows_of_moved, rows_of_new, rows_until, rows_where, rows_within, start_of, there, there_with, tries, tries_of, tries_when, unused, unused_with, waiting, waiting_with, window_of, windows, windows_with, worst_of}
+use Rattle.sim_report.specs.Figures.{Figure, FiguresAsked, Often, age_by, age_names, age_of_oldest, ages_at, apart, batches, begins_backlog, bound_names, bound_numbers, comes_in, count_names, counts_of, ends_backlog, figure_fields, flying, flying_with, given_by, gives, handled, held_after, held_with, higher, in_flight, is_asked, is_first, is_full, is_given, is_serving, last_given, last_moment, message_of, moved_by, moved_here, named_counts, named_peak, named_often, named_requests, named_services, named_tries, never, no_windows, oldest_before, once_more, overlap, peak_of, rank_in, receipt_cmp, received, receives_asked, rows_by, rows_of_moved, rows_of_new, rows_until, rows_where, rows_within, start_of, there, there_with, tries, tries_of, tries_when, unused, unused_with, waiting, waiting_with, window_of, windows, windows_with, worst_of}
 use Rattle.sim_report.specs.Running.{changed}
 use Rattle.sim_report.specs.Tally.{counted}
 
@@ -129,18 +135,53 @@ polls_with within f p =
 abbrev pub no_polls : Polls
 no_polls = record { waiting = []; given = None; asked = 0; batches = 0 }
 
+-- the message of a receipt if that is of a first receive, and else the receipt
+abbrev pub first_receipt : ℕ × ℕ → Option ℕ
+first_receipt r = cond (r.1 == 1) (Some r.0) None
+
+abbrev pub later_receipt : ℕ × ℕ → Option (ℕ × ℕ)
+later_receipt r = cond (r.1 == 1) None (Some r)
+
+-- unused receipts: of those of a first receive the messages, and all others
+pub record Unused : Type 0 where
+  pub first : List ℕ
+  pub later : List (ℕ × ℕ)
+
+abbrev pub unused_parts : List (ℕ × ℕ) → Unused
+unused_parts rs = record { first = filter_map first_receipt rs; later = filter_map later_receipt rs }
+
+-- those of a first receive with one more row that uses one of them
+abbrev pub first_with : Use → ℕ → List ℕ → List ℕ
+first_with Gives n ns = insert_key nat_cmp ns n
+first_with Passes n ns = ns
+first_with what n ns = remove_key (is_at (nat_cmp n)) ns
+
+-- with one more row, which does this with this receipt
+abbrev pub unused_next : Use → Option (ℕ × ℕ) → Unused → Unused
+unused_next what None u = u
+unused_next what (Some r) u =
+    cond (r.1 == 1) (record u { first = first_with what r.0 u.first })
+    (record u { later = unused_with what (Some r) u.later })
+
+-- whether a row that does this handles a receive
+abbrev pub handled_in : Use → Option (ℕ × ℕ) → Unused → Bool
+handled_in Deletes (Some r) u = true
+handled_in Calls (Some r) u =
+    cond (r.1 == 1) (list_any (λ n. n == r.0) u.first) (list_any (is_at (receipt_cmp r)) u.later)
+handled_in what receipt u = false
+
 -- the unused receipts, and the messages that were handled and received in a stretch
 pub record HandledState : Type 0 where
-  pub unused : List (ℕ × ℕ)
+  pub unused : Unused
   pub handled : Often
   pub received : Often
 
 abbrev pub handled_of : Stretch → List Row → HandledState
-handled_of s rows = record { unused = unused rows; handled = handled s rows; received = received s rows }
+handled_of s rows = record { unused = unused_parts (unused rows); handled = handled s rows; received = received s rows }
 
 -- of no rows
 abbrev pub not_handled : HandledState
-not_handled = record { unused = []; handled = never; received = never }
+not_handled = record { unused = unused_parts []; handled = never; received = never }
 
 -- with one more message, if there is one
 abbrev pub more_if : Bool → ℕ → Often → Often
@@ -149,9 +190,9 @@ more_if more n o = cond more (once_more n o) o
 -- with one more fact, which lies in the stretch or not
 abbrev pub handled_with : Bool → Fact → HandledState → HandledState
 handled_with within f h =
-    let handles = is_handled f.handling f.receipt h.unused in
+    let handles = handled_in f.handling f.receipt h.unused in
     record {
-      unused = unused_with f.handling f.receipt h.unused;
+      unused = unused_next f.handling f.receipt h.unused;
       handled = cond within (more_if handles (message_of f.receipt) h.handled) h.handled;
       received = cond within (more_if (gives f.handling) f.number h.received) h.received;
     }
@@ -209,6 +250,10 @@ pub record QueueState : Type 0 where
   pub oldest : Peak
   pub full : Lasting
   pub backlogs : Backlogs
+
+-- the ages of its deletions
+abbrev pub apart_by : QueueState → AgesApart
+apart_by q = record { all = q.ages; others = q.new_ages; moved = q.moved_ages }
 
 -- the counts of no rows
 abbrev pub no_counts : List ℕ
@@ -363,8 +408,8 @@ oldest_by s q = higher q.oldest (record { at = s.until - 1; number = age_of_olde
 -- its peaks
 unfoldable pub peaks_by : Stretch → QueueState → List Figure
 peaks_by s q =
-    named_peak (codes "depth") q.depth
-    ++ (named_peak (codes "in_flight") q.in_flight ++ named_oldest (oldest_by s q))
+    named_peak (codes "depth") [] q.depth
+    ++ (named_peak (codes "in_flight") [] q.in_flight ++ named_peak (codes "oldest_age") (codes "_ms") (oldest_by s q))
 
 -- the figures of ages
 unfoldable pub queue_ages : Wanted → QueueState → List Figure

@@ -172,9 +172,8 @@ number_of None = 0
 -- the messages in flight, by their numbers in ascending order, with one more row
 abbrev pub flying_with : Flight → ℕ → List ℕ → List ℕ
 flying_with Begins n ns = insert_key nat_cmp ns n
-flying_with Returns n ns = remove_key (is_at (nat_cmp n)) ns
-flying_with Leaves n ns = remove_key (is_at (nat_cmp n)) ns
 flying_with Stays n ns = ns
+flying_with flight n ns = remove_key (is_at (nat_cmp n)) ns
 
 -- the messages in flight after these rows of a queue
 abbrev pub flying : List Row → List ℕ
@@ -203,12 +202,8 @@ abbrev pub there : List Row → List (ℕ × ℕ)
 there rows = fold there_by [] rows
 
 -- how long the first of these messages has been there at a moment: the oldest, since they come by their numbers
-abbrev pub age_of : ℕ → Option (ℕ × ℕ) → ℕ
-age_of at (Some m) = at - m.1
-age_of at None = 0
-
 abbrev pub age_of_oldest : ℕ → List (ℕ × ℕ) → ℕ
-age_of_oldest at ms = age_of at (slice_get ms 0)
+age_of_oldest at ms = unwrap_or (option_map (λ (m : ℕ × ℕ). at - m.1) (slice_get ms 0)) 0
 
 -- the same where a message leaves, by the rows before, and else 0
 abbrev pub age_by : Flight → ℕ → List (ℕ × ℕ) → ℕ
@@ -282,11 +277,10 @@ receipt_cmp = then_cmp (on (λ r. r.0) nat_cmp) (on (λ r. r.1) nat_cmp)
 -- the unused receipts, in their order, with one more row: they were given, no call to delete was made with them, and
 -- their service did not fail
 abbrev pub unused_with : Use → Option (ℕ × ℕ) → List (ℕ × ℕ) → List (ℕ × ℕ)
+unused_with what None rs = rs
 unused_with Gives (Some r) rs = insert_key receipt_cmp rs r
-unused_with Deletes (Some r) rs = remove_key (is_at (receipt_cmp r)) rs
-unused_with Calls (Some r) rs = remove_key (is_at (receipt_cmp r)) rs
-unused_with Fails (Some r) rs = remove_key (is_at (receipt_cmp r)) rs
-unused_with what receipt rs = rs
+unused_with Passes (Some r) rs = rs
+unused_with what (Some r) rs = remove_key (is_at (receipt_cmp r)) rs
 
 -- these receipts after these rows of a queue
 abbrev pub unused : List Row → List (ℕ × ℕ)
@@ -382,10 +376,9 @@ hold_of kind answer = Keeps
 -- what it holds after a row that changes this
 abbrev pub held_with : Hold → Held → Held
 held_with Takes h = record { number = cond h.receiving (h.number + 1) 1; receiving = true }
-held_with Waits h = record { number = 0; receiving = false }
-held_with Asks h = record { number = 0; receiving = false }
 held_with Settles h = record { number = h.number - 1; receiving = false }
 held_with Keeps h = h
+held_with hold h = record { number = 0; receiving = false }
 
 -- what it holds after one more row
 abbrev pub held_by : Held → Row → Held
@@ -536,29 +529,23 @@ apart among ns ms = filter (λ m. cond (list_any (λ n. n == m.0) ns) among (not
 abbrev pub rank_below : ℕ → ℕ → List ℕ → Option ℕ
 rank_below percent more sorted = slice_get sorted ((percent * (length sorted + more) + 99) / 100 - 1)
 
--- the worst window of those before one with this number, and the ages in this one
-abbrev pub worst_before : ℕ → Windows → Option Worst
-worst_before n w = cond (w.number == n) w.worst (worst_of w)
-
-abbrev pub ages_in : ℕ → Windows → List ℕ
-ages_in n w = cond (w.number == n) w.ages []
-
--- the age of the worst window, if the last one, with this number, has this age
-abbrev pub worst_with : ℕ → Windows → Option ℕ → Option ℕ
-worst_with n w age = option_map (λ (x : Worst). x.age) (worse (worst_before n w) n age)
-
 -- the least and the greatest that a percentile of ages, in ascending order, can be once the messages that are left end
 -- too, which have these ages now: as if each ended now, and as if none ever did
 abbrev pub bounds_at : ℕ → List ℕ → List ℕ → List (Option ℕ)
 bounds_at percent ended left =
     rank_in percent (ascending (ended ++ left)) ∷ rank_below percent (length left) ended ∷ []
 
--- the same of the worst window, in the last one of which they are left
+-- the same of the worst window, where they are left in the last one, which has this number and these ages
+abbrev pub bounds_after : Option Worst → ℕ → List ℕ → List ℕ → List (Option ℕ)
+bounds_after before n ended left =
+    let worse_age : Option ℕ → Option ℕ = λ age. option_map (λ (x : Worst). x.age) (worse before n age) in
+    let most = rank_below 95 (length left) ended in
+    worse_age (rank_in 95 (ascending (ended ++ left)))
+    ∷ cond (is_some most || length left == 0) (worse_age most) None ∷ []
+
 abbrev pub window_bounds : ℕ → Windows → List ℕ → List (Option ℕ)
 window_bounds n w left =
-    let most = rank_below 95 (length left) (ages_in n w) in
-    worst_with n w (rank_in 95 (ascending (ages_in n w ++ left)))
-    ∷ cond (is_some most || length left == 0) (worst_with n w most) None ∷ []
+    cond (w.number == n) (bounds_after w.worst n w.ages left) (bounds_after (worst_of w) n [] left)
 
 -- a figure: its name and its number, if there is one
 abbrev pub Figure : Type 0
@@ -584,15 +571,10 @@ named_requests receives counts =
     ∷ (codes "requests", Some (sends + receives + deletes + changes + starts + cancels))
     ∷ (codes "refused_requests", Some (of 18 + of 19 + of 20 + of 21 + of 24 + of 25)) ∷ []
 
--- a peak by its names
-abbrev pub named_peak : List ℕ → Peak → List Figure
-named_peak name peak =
-    (name ++ codes "_greatest", Some peak.number) ∷ (name ++ codes "_greatest_at_ms", Some peak.at) ∷ []
-
--- the greatest age of the oldest message by its names
-abbrev pub named_oldest : Peak → List Figure
-named_oldest peak =
-    (codes "oldest_age_greatest_ms", Some peak.number) ∷ (codes "oldest_age_greatest_at_ms", Some peak.at) ∷ []
+-- a peak by its names, the first with the unit of its number
+abbrev pub named_peak : List ℕ → List ℕ → Peak → List Figure
+named_peak name unit peak =
+    (name ++ codes "_greatest" ++ unit, Some peak.number) ∷ (name ++ codes "_greatest_at_ms", Some peak.at) ∷ []
 
 -- tries by their names
 abbrev pub named_tries : Tries → List Figure
@@ -663,8 +645,10 @@ queue_figures queues w q rows =
     let s = w.stretch in
     let counts = counts_of queues (rows_within s rows) in
     named_counts counts ++ (named_requests (receives_asked s rows) counts
-    ++ (named_peak (codes "depth") (peak_of depth s rows) ++ (named_peak (codes "in_flight") (peak_of in_flight s rows)
-    ++ (named_oldest (oldest s rows) ++ (named_left q w rows ++ (named_tries (tries_of (tries (rows_within s rows)))
+    ++ (named_peak (codes "depth") [] (peak_of depth s rows)
+    ++ (named_peak (codes "in_flight") [] (peak_of in_flight s rows)
+    ++ (named_peak (codes "oldest_age") (codes "_ms") (oldest s rows)
+    ++ (named_left q w rows ++ (named_tries (tries_of (tries (rows_within s rows)))
     ++ (named_often (handled s rows) (received s rows) ++ (named_ages (codes "age") w (rows_within s rows)
     ++ (named_ages (codes "new_age") w (rows_within s (rows_of_new queues rows))
     ++ (named_ages (codes "moved_age") w (rows_within s (rows_of_moved queues rows))

@@ -3,11 +3,13 @@ ghost use Rattle.std.specs.Prelude.{◌≡◌, map, zip, IfOk, OnOk};
 ghost use Rattle.std.specs.List.Sorted.{IsNonDecreasing};
 ghost use Rattle.sim_report.specs.Figured.{age_bounds, age_numbers, aged_with, no_aged};
 
+use crate::age_counts::AgeCounts;
 use crate::ages::Ages;
 use crate::asked::Wanted;
 use crate::figure::Figure;
-use crate::windows::Windows;
+use crate::windows::{WindowCounts, Windows};
 use std::alloc::{AllocError, Global};
+use std::marker::Model;
 
 /// The number of figures of ages.
 pub(crate) const AGES: usize = 7;
@@ -20,6 +22,21 @@ pub(crate) const BOUNDS: usize = 10;
 pub(crate) struct Aged {
     ages: Ages,
     windows: Windows,
+}
+
+/// The same, with the ages counted.
+#[derive(Drop)]
+pub(crate) struct AgedCounts {
+    ages: AgeCounts,
+    windows: WindowCounts,
+}
+
+impl Model for AgedCounts {
+    ghost use Rattle.sim_report.specs.declared.aged.Aged.{Aged};
+
+    ghost Value = { Aged };
+
+    ghost view = { λ a. record { ages = a.ages; windows = a.windows } };
 }
 
 impl Aged {
@@ -59,6 +76,22 @@ impl Aged {
         self.windows.add(window, age)
     }
 
+    /// The same, with the ages counted.
+    ///
+    /// # Errors
+    ///
+    /// `AllocError` if a growth is refused, or more ages are counted than 64 bits can say.
+    pub(crate) fn counted(&self, alloc: Global) -> Result<AgedCounts, AllocError>
+        ensures { IfOk result (λ all. all ≡ self.now) }
+    {
+        Ok(AgedCounts {
+            ages: self.ages.counted(alloc)?,
+            windows: self.windows.counted(alloc)?,
+        })
+    }
+}
+
+impl AgedCounts {
     /// The bounds of the ages, by these names, where messages that are left have these ages, in
     /// ascending order, at the last moment of the stretch.
     ///
@@ -76,7 +109,7 @@ impl Aged {
         ensures { IfOk result (λ v. v
             ≡ zip (map (λ n. n.now) names.entry) (age_bounds wanted left.now self.now)) }
     {
-        let ended = self.ages.counted(alloc)?;
+        let ended = &self.ages;
         let all = ended.merged(alloc, left)?;
         let more = left.len();
         let last = wanted.window_of(wanted.stretch.last());
@@ -106,26 +139,16 @@ impl Aged {
     }
 
     /// The figures of the ages, by these names.
-    ///
-    /// # Errors
-    ///
-    /// `AllocError` if a growth is refused.
-    pub(crate) fn figures(
-        &self,
-        alloc: Global,
-        wanted: Wanted,
-        names: [&'static [u8]; AGES],
-    ) -> Result<[Figure; AGES], AllocError>
-        ensures { IfOk result (λ figures. figures
-            ≡ zip (map (λ n. n.now) names.entry) (age_numbers wanted self.now)) }
+    pub(crate) fn figures(&self, wanted: Wanted, names: [&'static [u8]; AGES]) -> [Figure; AGES]
+        ensures { result ≡ zip (map (λ n. n.now) names.entry) (age_numbers wanted self.now) }
     {
-        let all = self.ages.counted(alloc)?;
-        let (window_age, window_start) = match self.windows.worst()? {
+        let all = &self.ages;
+        let (window_age, window_start) = match self.windows.worst() {
             Some(worst) => (Some(worst.age), Some(wanted.start_of(worst.number))),
             None => (None, None),
         };
         let [sum, half, most, nearly_all, greatest, window, window_at] = names;
-        Ok([
+        [
             Figure::of(sum, Some(all.total())),
             Figure::of(half, all.nearest_rank(50)),
             Figure::of(most, all.nearest_rank(95)),
@@ -133,6 +156,6 @@ impl Aged {
             Figure::of(greatest, all.nearest_rank(100)),
             Figure::of(window, window_age),
             Figure::of(window_at, window_start),
-        ])
+        ]
     }
 }

@@ -1,8 +1,8 @@
 //! Ages of deletions, of messages that came by a move and of others.
-ghost use Rattle.std.specs.Prelude.{◌≡◌, false, true, OnOk};
+ghost use Rattle.std.specs.Prelude.{◌≡◌, false, true, IfOk, OnOk};
 ghost use Rattle.sim_report.specs.Figured.{apart_with, none_apart};
 
-use crate::aged::Aged;
+use crate::aged::{Aged, AgedCounts};
 use std::alloc::{AllocError, Global};
 use std::marker::Model;
 
@@ -17,6 +17,23 @@ pub(crate) struct AgedApart {
 }
 
 impl Model for AgedApart {
+    ghost use Rattle.std.specs.Prelude.{unwrap_or};
+    ghost use Rattle.sim_report.specs.Figured.{AgesApart};
+
+    ghost Value = { AgesApart };
+
+    ghost view = { λ a. record { all = a.all; others = unwrap_or a.others a.all; moved = a.moved } };
+}
+
+/// The same, with the ages counted.
+#[derive(Drop)]
+pub(crate) struct CountedApart {
+    all: AgedCounts,
+    others: Option<AgedCounts>,
+    moved: AgedCounts,
+}
+
+impl Model for CountedApart {
     ghost use Rattle.std.specs.Prelude.{unwrap_or};
     ghost use Rattle.sim_report.specs.Figured.{AgesApart};
 
@@ -78,15 +95,36 @@ impl AgedApart {
         }
     }
 
+    /// The same, with the ages counted.
+    ///
+    /// # Errors
+    ///
+    /// `AllocError` if a growth is refused, or more ages are counted than 64 bits can say.
+    pub(crate) fn counted(&self, alloc: Global) -> Result<CountedApart, AllocError>
+        ensures { IfOk result (λ all. all ≡ self.now) }
+    {
+        let others = match &self.others {
+            Some(others) => Some(others.counted(alloc)?),
+            None => None,
+        };
+        Ok(CountedApart {
+            all: self.all.counted(alloc)?,
+            others,
+            moved: self.moved.counted(alloc)?,
+        })
+    }
+}
+
+impl CountedApart {
     /// Those of all.
-    pub(crate) fn all(&self) -> &Aged
+    pub(crate) fn all(&self) -> &AgedCounts
         ensures { result.now ≡ self.now.all }
     {
         &self.all
     }
 
     /// Those of messages that came by no move.
-    pub(crate) fn others(&self) -> &Aged
+    pub(crate) fn others(&self) -> &AgedCounts
         ensures { result.now ≡ self.now.others }
     {
         match &self.others {
@@ -96,7 +134,7 @@ impl AgedApart {
     }
 
     /// Those of messages that came by a move.
-    pub(crate) fn moved(&self) -> &Aged
+    pub(crate) fn moved(&self) -> &AgedCounts
         ensures { result.now ≡ self.now.moved }
     {
         &self.moved

@@ -21,8 +21,9 @@ pub(crate) const REDRIVES: u16 = 6;
 pub(crate) const MOVES: u16 = 7;
 
 // The index of the column that counts a row. The columns of the errors follow the first nine.
-pub(crate) fn column_of(kind: RowKind, answer: RowAnswer) -> Option<u16>
-    ensures { result ≡ column kind answer }
+#[inline(always)]
+pub(crate) fn column_of(kind: RowKind, answer: &RowAnswer) -> Option<u16>
+    ensures { result ≡ column kind answer.now }
 {
     match (kind, answer) {
         (_, RowAnswer::Refused(refusal)) => Some(u16::from(refusal.code()) + 8),
@@ -73,7 +74,7 @@ impl RowCount {
     pub fn of(row: &Row) -> RowCount
         ensures { result ≡ count_of row.now }
     {
-        let column = column_of(row.kind, row.answer);
+        let column = column_of(row.kind, &row.answer);
         RowCount {
             age: age_of(column, row.detail),
             queue: row.queue,

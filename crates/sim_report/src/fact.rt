@@ -1,10 +1,7 @@
 //! What the figures need of a row.
-ghost use Rattle.std.specs.Prelude.{◌≡◌, Some};
-ghost use Rattle.sim_report.specs.Facts.{fact_of, place_in, saying_of};
+ghost use Rattle.std.specs.Prelude.{◌≡◌};
+ghost use Rattle.sim_report.specs.Facts.{counts_alone, fact_of, place_in, saying_of};
 ghost use Rattle.sim_report.specs.Figures.{counted_as, flight_of, hold_of, is_own, message_of, number_of, of_queue, receipt_of, tries_when, use_of};
-ghost use Rattle.sim_report.specs.declared.fact.Flight.TheVariants.{Stays};
-ghost use Rattle.sim_report.specs.declared.fact.Hold.TheVariants.{Keeps};
-ghost use Rattle.sim_report.specs.declared.fact.Use.TheVariants.{Passes};
 ghost use Rattle.sqs_formats.specs.Report.{is_column};
 
 use crate::column::{ARRIVALS, DELETES, RowCount, SENDS, age_of, column_of};
@@ -204,7 +201,7 @@ fn any_saying(kind: RowKind, answer: RowAnswer) -> Saying
     ensures { result ≡ saying_of kind answer }
 {
     Saying {
-        column: column_of(kind, answer),
+        column: column_of(kind, &answer),
         place: counted_as(kind, answer),
         hold: hold_of(kind, answer),
         flight: flight_of(kind, answer),
@@ -215,7 +212,7 @@ fn any_saying(kind: RowKind, answer: RowAnswer) -> Saying
 // What a row says that changes nothing but counts.
 #[inline(always)]
 fn counted(column: Option<u16>, place: u16) -> Saying
-    ensures { result ≡ record { column = column; place = Some place; hold = Keeps; flight = Stays; handling = Passes } }
+    ensures { result ≡ counts_alone column place }
 {
     Saying {
         column,
@@ -228,8 +225,8 @@ fn counted(column: Option<u16>, place: u16) -> Saying
 
 // What a row of this kind with this answer says. What the most frequent ones say is known at once.
 #[inline(always)]
-fn said_by(kind: RowKind, answer: RowAnswer) -> Saying
-    ensures { result ≡ saying_of kind answer }
+fn said_by(kind: RowKind, answer: &RowAnswer) -> Saying
+    ensures { result ≡ saying_of kind answer.now }
 {
     match (kind, answer) {
         (RowKind::Send, RowAnswer::New) => counted(Some(SENDS), 0),
@@ -257,7 +254,7 @@ fn said_by(kind: RowKind, answer: RowAnswer) -> Saying
             flight: Flight::Leaves,
             handling: Use::Deletes,
         },
-        _ => any_saying(kind, answer),
+        _ => any_saying(kind, *answer),
     }
 }
 
@@ -288,7 +285,7 @@ impl Fact {
     pub fn of(row: &Row) -> Fact
         ensures { result ≡ fact_of row.now }
     {
-        let said = said_by(row.kind, row.answer);
+        let said = said_by(row.kind, &row.answer);
         Fact {
             at: row.key.at,
             agent: row.agent,

@@ -52,7 +52,7 @@ impl Polls {
     }
 
     // Takes in that a poll of an agent begins to wait.
-    #[inline(never)]
+    #[inline(always)]
     fn wait(&mut self, within: bool, fact: &Fact) -> Result<(), AllocError>
         requires { fact.now.hold ≡ Waits }
         ensures { OnOk result (self.new ≡ polls_with within fact.now self.old) }
@@ -80,7 +80,7 @@ impl Polls {
     }
 
     // Takes in that a row gave a message to an agent.
-    #[inline(never)]
+    #[inline(always)]
     fn give(&mut self, within: bool, fact: &Fact) -> Result<(), AllocError>
         requires { fact.now.hold ≡ Takes }
         ensures { OnOk result (self.new ≡ polls_with within fact.now self.old) }

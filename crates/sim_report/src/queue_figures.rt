@@ -1,11 +1,11 @@
 //! The running figures of a queue.
 ghost use Rattle.std.specs.Prelude.{◌≡◌, ◌++◌, map, OnOk};
-ghost use Rattle.sim_report.specs.Figured.{bounds_by, fresh_queue, is_backlog_by, is_full_by, left_by, oldest_by, peaks_by, queue_ages, queue_changing, queue_counted, queue_counting, queue_numbers, queue_peaking, queue_sizes, queue_with};
+ghost use Rattle.sim_report.specs.Figured.{apart_by, bounds_by, fresh_queue, is_backlog_by, is_full_by, left_by, oldest_by, peaks_by, queue_ages, queue_changing, queue_counted, queue_counting, queue_numbers, queue_peaking, queue_sizes, queue_with};
 ghost use Rattle.sim_report.specs.Figures.{age_by, figure_fields, named_often, named_tries};
 ghost use Rattle.sqs_formats.specs.Rows.{lines};
 
 use crate::aged::{AGES, BOUNDS};
-use crate::apart::AgedApart;
+use crate::apart::{AgedApart, CountedApart};
 use crate::asked::{QueueAsked, Wanted};
 use crate::backlogs::{Backlogs, NO_BACKLOGS};
 use crate::column::comes_in;
@@ -355,40 +355,48 @@ impl QueueFigures {
         ]
     }
 
-    // Adds the lines of the figures of its ages.
-    fn write_ages(&self, alloc: Global, wanted: Wanted, text: &mut Lines) -> Result<(), AllocError>
+    // Adds the lines of the figures of its ages, which are counted.
+    fn write_ages(
+        &self,
+        ages: &CountedApart,
+        wanted: Wanted,
+        text: &mut Lines,
+    ) -> Result<(), AllocError>
+        requires { ages.now ≡ apart_by self.now }
         ensures { OnOk result (text.new ≡ text.old
             ++ lines (map (figure_fields self.now.asked.name) (queue_ages wanted self.now))) }
     {
         let of = self.asked.name.as_bytes();
-        let all = self.ages.all().figures(alloc, wanted, AGE_NAMES)?;
-        let new = self.ages.others().figures(alloc, wanted, NEW_AGE_NAMES)?;
-        let moved = self.ages.moved().figures(alloc, wanted, MOVED_AGE_NAMES)?;
+        let all = ages.all().figures(wanted, AGE_NAMES);
+        let new = ages.others().figures(wanted, NEW_AGE_NAMES);
+        let moved = ages.moved().figures(wanted, MOVED_AGE_NAMES);
         add_figures(text, of, &all)?;
         add_figures(text, of, &new)?;
         add_figures(text, of, &moved)
     }
 
-    // Adds the lines of the bounds of its ages, with the messages that are left.
+    // Adds the lines of the bounds of its ages, which are counted, with the messages that are left.
     fn write_bounds(
         &self,
         alloc: Global,
+        counted: &CountedApart,
         wanted: Wanted,
         text: &mut Lines,
     ) -> Result<(), AllocError>
+        requires { counted.now ≡ apart_by self.now }
         ensures { OnOk result (text.new ≡ text.old
             ++ lines (map (figure_fields self.now.asked.name) (bounds_by wanted self.now))) }
     {
         let of = self.asked.name.as_bytes();
         let at = wanted.stretch.last();
         let left = self.there.ages(alloc, at)?;
-        let ages = self.ages.all();
+        let ages = counted.all();
         let all = ages.bounds(alloc, wanted, left.as_slice(), AGE_BOUNDS)?;
         let left = self.there.ages_apart(alloc, at, &self.moved, false)?;
-        let ages = self.ages.others();
+        let ages = counted.others();
         let new = ages.bounds(alloc, wanted, left.as_slice(), NEW_AGE_BOUNDS)?;
         let left = self.there.ages_apart(alloc, at, &self.moved, true)?;
-        let ages = self.ages.moved();
+        let ages = counted.moved();
         let moved = ages.bounds(alloc, wanted, left.as_slice(), MOVED_AGE_BOUNDS)?;
         add_figures(text, of, &all)?;
         add_figures(text, of, &new)?;
@@ -427,7 +435,8 @@ impl QueueFigures {
         add_figures(text, of, counts.as_slice())?;
         add_figures(text, of, &named_requests(self.polls.asked, &self.counts))?;
         self.write_sizes(wanted, text)?;
-        self.write_ages(alloc, wanted, text)?;
-        self.write_bounds(alloc, wanted, text)
+        let ages = self.ages.counted(alloc)?;
+        self.write_ages(&ages, wanted, text)?;
+        self.write_bounds(alloc, &ages, wanted, text)
     }
 }

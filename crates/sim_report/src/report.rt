@@ -39,7 +39,9 @@ impl Model for Report {
     ghost view = { λ r. record { queues = r.queues.items; figures = r.figures } };
 }
 
-// Adds rows to the counts of queues and to figures. What a row says is made once for both.
+// Adds rows to the counts of queues and to figures. What a row says is made once for both. It is a
+// call of its own, so that a run without figures does not pay for its frame.
+#[inline(never)]
 fn add_with_figures(
     queues: &mut [QueueCounts],
     figures: &mut Figures,
