@@ -1,0 +1,4 @@
+pub mod Phold
+pub mod Opening
+pub mod Laws
+pub mod Runs
