@@ -10,22 +10,13 @@ import sys
 import unittest
 from unittest import mock
 
-from tool import LIMIT, ROOT, ToolCase, is_running, module_at, wait_for
+from tool import HERE, LIMIT, ROOT, ToolCase, is_running, module_at, text_at, wait_for
 
 ALL = os.path.join(ROOT, "tests", "all.py")
 everything = module_at(ALL, "tests_all")
 # Without --missing it makes the file of $INSTALLED; before that the packages of $MISSING are not there.
-SETUP = """#!/bin/sh
-if [ "$1" != --missing ]; then echo > "$INSTALLED"; exit "$SETUP_STATUS"; fi
-if [ -z "$MISSING" ] || [ -e "$INSTALLED" ]; then exit 0; fi
-printf '%s\\n' $MISSING
-exit 1
-"""
-WRAPPER = """#!/bin/sh
-[ "$*" = --where ] && [ "$SQS_REHEARSE_BUILD" = never ] || exit 9
-[ "$BUILT" ] || { echo "sqs_rehearse: the program is not built yet" >&2; exit 2; }
-echo "$BUILT"
-"""
+SETUP = text_at(HERE, "stand-ins", "setup")
+WRAPPER = text_at(HERE, "stand-ins", "where")
 # The clock of a tests/all, which goes on by 3,000 seconds once a file is there.
 CLOCK = """import os
 import time

@@ -25,46 +25,6 @@ class Arrivals(ToolCase):
         self.assertTrue(all(early < late for early, late in zip(times, times[1:])))
         return records, times
 
-    def test_times_of_a_file(self):
-        """Seconds from the earliest on; two at 2.5 s are a millisecond apart, and the third is put off by two."""
-        path = self.write("t.csv", "12.5\n10\n12.5\n\n12.501\n")
-        self.assertEqual(self.run_tool("arrivals", "times", path, "--start", "100"), (0, HEADER + "".join(
-            f"{at},send,message {n},,,,,,,,\n" for n, at in enumerate((100, 2600, 2601, 2602))), ""))
-        self.assertEqual(self.made("times", path, "--unit", "ms", "--origin", "4")[1], [6, 8, 9, 10])
-
-    def test_moments_columns_and_bodies(self):
-        text = 'id,when,what\n1,2024-05-01T12:00:01Z,"a, b"\n2,2024-05-01T14:00:00.250+02:00,c {n}\n'
-        path = self.write("t.csv", text)
-        records, times = self.made("times", path, "--column", "when", "--bodies", "what", "--origin",
-                                   "2024-05-01T12:00:00")
-        self.assertEqual((times, [record["body"] for record in records]), ([250, 1000], ["c 0", "a, b"]))
-
-    def test_message_groups_and_ids_of_a_file(self):
-        """Each message keeps the group and the id of its record, also where the times are not in order."""
-        path = self.write("t.csv", "t,group,id,what\n2,acct-1,c,x\n0,acct-1,a,y\n1,acct-2,b,z\n")
-        words = "times", path, "--queue", "q.fifo", "--group-ids", "group"
-        records, times = self.made(*words, "--deduplication-ids", "id", "--bodies", "what")
-        self.assertEqual([(at, *map(record.get, ("body", "group", "id"))) for at, record in zip(times, records)],
-                         [(0, "y", "acct-1", "a"), (1000, "z", "acct-2", "b"), (2000, "x", "acct-1", "c")])
-        records, _ = self.made(*words)
-        self.assertEqual([(record["group"], record["id"]) for record in records],
-                         [("acct-1", "m0"), ("acct-2", "m1"), ("acct-1", "m2")])
-
-    def test_message_groups_that_are_none(self):
-        path = self.write("t.csv", "t,group\n1,a b\n")
-        words = "times", path, "--queue", "q.fifo", "--group-ids", "group"
-        line = f"{path}: record 2 has an id that is not 1 to 128 ASCII characters without a space: "
-        self.assert_fault(self.run_tool("arrivals", *words), f"arrivals: {line}a b")
-        self.write("t.csv", "t,group\n1,\n")
-        self.assert_fault(self.run_tool("arrivals", *words), f"arrivals: {line}''")
-        self.write("t.csv", "t,group\n1\n")
-        self.assert_fault(self.run_tool("arrivals", *words),
-                          f"arrivals: {path}: record 2 lacks one of the columns")
-        for queue in ((), ("--queue", "q")):
-            self.assert_fault(
-                self.run_tool("arrivals", "times", path, *queue, "--group-ids", "group"),
-                "arrivals: message groups and deduplication ids are of a FIFO queue, which --queue names, as orders.fifo")
-
     def test_a_metric_of_cloudwatch(self):
         """In each period so many as it says, the first at the beginning of the run."""
         _, times = self.made("metric", self.write("m.json", json.dumps(METRIC)), "--id", "sent")
@@ -143,12 +103,6 @@ class Arrivals(ToolCase):
         _, times = self.made("hours", "--numbers", ",".join(["0", "4000"] + 22 * ["0"]), "--duration", "90min")
         self.assertTrue(all(60 * MINUTE <= at < 90 * MINUTE for at in times))
         self.assertTrue(1_820 <= len(times) <= 2_180, len(times))
-
-    def test_groups_and_ids_of_a_fifo_queue(self):
-        records, _ = self.made("bursts", "--size", "3", "--every", "1h", "--over", "1s", "--duration", "1s", "--queue",
-                               "q.fifo", "--groups", "2")
-        self.assertEqual([(record["group"], record["id"]) for record in records],
-                         [("g0", "m0"), ("g1", "m1"), ("g0", "m2")])
 
     def test_several_files(self):
         words = "poisson", "--rate", "300/s", "--duration", "500s", "--queue", "q"

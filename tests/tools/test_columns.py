@@ -11,7 +11,7 @@ from typing import Any
 
 from test_runs import OVERLOADED, random_scenario
 from tool import HEADER, PROGRAM, ToolCase, ended, log_at, needs_program, printed
-from scenario_texts import consumer, producer, queue_of, scenario_of, script, task
+from scenario_texts import consumer, queue_of, scenario_of, script, task
 from rehearse_tools.figures import COLUMNS as OF_FIGURES
 from rehearse_tools.figures import Figures, bounds_of, figures_in
 from rehearse_tools.requirements import Requirement
@@ -141,16 +141,6 @@ class Sweeps(ToolCase):
     def sweep(self, *words: str) -> tuple[int, str, str]:
         return self.run_tool("sweep", self.scenario, *words)
 
-    def test_consumers_of_version_3(self) -> None:
-        """Two copies serve four messages of a second each, two of them at once. What one holds that gathers messages is
-        not known, so how busy it is has no number."""
-        for key, number, busy in ("copies", 2, "20"), ("gather_ms", 0, "40"), ("gather_ms", 1, ""):
-            path = self.write("s.toml", scenario_of(9_999, queue_of("q"), producer("shop", "q", 4, 1), consumer(
-                "c", "q", 1_000, start_ms=10, **{key: number}), version=3))
-            status, out, _ = self.run_tool("sweep", "--v3", path, "--vary", "seed=1", "--columns", "busy")
-            with self.subTest(key=key, number=number):
-                self.assertEqual((status, out.splitlines()[1].split(",")[-1]), (0, busy))
-
     def test_columns(self) -> None:
         words = "--vary", "seed=1..5", "--price", "0.4", "--columns", "requests,cost,window_age_p95"
         status, out, _ = self.sweep(*words)
@@ -161,25 +151,3 @@ class Sweeps(ToolCase):
         spread = self.sweep("--vary", "seed=1..5", "--columns", "cost", "--price", "400000", "--spread", "seed")[1]
         self.assertAlmostEqual(float(spread.splitlines()[1].split(",")[3]), sum(int(row[3]) for row in rows[1:]) / 12.5,
                                places=2)
-
-    def test_requirements(self) -> None:
-        _, err = self.ends(1, self.sweep("--require", "q.new_age_p95<90s", "--require", "q.backlog_gone<50s",
-                                         "--require", "q.moved_age_p50<1s", "--require", "q.requests<1000"))
-        self.assertIn("q.new_age_p95<90s is undecided with the scenario as it is: it is ", err)
-        self.assertIn("q.backlog_gone<50s fails with the scenario as it is: a backlog is there at the end\n", err)
-        self.assertIn("q.moved_age_p50<1s fails with the scenario as it is: no moved message was deleted\n", err)
-        self.assertIn("requirements that hold: 1 of 4\n", err)
-
-    def test_reports(self) -> None:
-        words = self.scenario, "--output", "r.html", "--require"
-        _, err = self.ends(1, self.run_tool("report", *words, "q.window_age_p95<1s", "--require", "q.requests<1000"))
-        self.assertTrue(err.startswith("report: q.window_age_p95<1s fails: it is "), err)
-        self.assertEqual(len(err.splitlines()), 1)
-        self.assert_fault(self.run_tool("report", *words, "q.cost<1"),
-                          "report: q.cost<1: a report knows no price (tools/sweep has --price)")
-
-    def test_faults(self) -> None:
-        self.assert_stored_faults("columns")
-        self.assertEqual(self.sweep("--vary", "seed=1", "--share", "1/1", "--results", "d")[0], 0)
-        _, err = self.ends(2, self.run_tool("sweep", "--collect", "d", "--columns", "requests"))
-        self.assertIn("shares and jobs have the columns of the report alone, and none of door_age_p50, ", err)

@@ -116,42 +116,10 @@ class Curves(Readable):
                 self.texts(WORDS, "--column", "q.sends", *words)
                 self.texts(FOLDED, "--column", "q.age_p95", *words[:2])
 
-    def test_faults(self):
-        many = "a,b,failed,queue,sends\n" + "".join(f"1,{b},,q,1\n" for b in range(9))
-        column = "--column", "q.sends"
-        for text, words, line in (
-                (ROWS, (), "--column is needed, as --column orders.age_p95"),
-                (ROWS, ("--column", "x.sends"), "x.sends: the sweep has no queue x; it has q, r"),
-                (ROWS, ("--column", "q.moves"), "q.moves: the sweep has no column moves"),
-                (ROWS, ("--column", "sends"), "sends: the sweep has no queue ''; it has q, r"),
-                (ROWS, (*column, "--setting", "x"), "rows.csv does not vary x; it varies queue.q.visibility_s, seed"),
-                (ROWS, (*column, "--queue", "q"),
-                 "--rest, --queue, --from, --to and --scenario go with a LOG, not with --sweep"),
-                (ROWS, (*column, "--height", "90"), "a height of 90 is too small for 1 columns: 192 is enough"),
-                ("seed,failed,queue,sends\n1,,q,1\n", column,
-                 "rows.csv varies no setting other than a seed; --setting seed draws that"),
-                ("seed,failed,queue,sends\n1,no,,\n", column, "rows.csv has no variant that ran"),
-                ("", column, "rows.csv has no rows of a sweep"), ("a,b\n", column, "rows.csv has no rows of a sweep"),
-                ("a,failed,queue,x\n", column, "rows.csv has no rows of a sweep"),
-                ("a,failed,queue,sends\n1,,q\n", column, "rows.csv: record 2 has 3 fields, and the header 4"),
-                ("a,failed,queue,sends\n1,,q,-1\n", column, "rows.csv: record 2 has -1, which is no number"),
-                ("a,failed,queue,sends\n1,,q,1e9\n", column, "rows.csv: record 2 has 1e9, which is no number"),
-                (FOLDED.replace(",q,2", ",q,x"), column, "rows.csv: record 2 has x runs"),
-                (many, column, "9 curves are too many to tell apart: other settings than a are varied, of which 8 "
-                               "combinations can be drawn"),
-                (LONG_WORDS, column, "a has 41 words, too many to stand side by side")):
-            with self.subTest(text=text, words=words):
-                path = self.write("rows.csv", text)
-                with self.assertRaises(Fault) as fault:
-                    sweep_picture(picture.options_of(["--sweep", path, *words]))
-                self.assertEqual(str(fault.exception).replace(path, "rows.csv"), line)
-        self.assert_fault(self.run_tool("picture", "rows.csv", *column),
-                          "picture: --column and --setting go with --sweep")
-        self.assert_fault(self.run_tool("picture", "--sweep", "none", *column),
-                          "picture: cannot read none: No such file or directory")
+    def test_files_of_other_kinds(self):
         for data in (b"\xff", b"\x00" * 9, b'"' * 10, b"a,failed,queue,sends\r1,,q,1\n"):
             self.write("rows.csv", data)
-            self.refusal(self.run_tool("picture", "--sweep", "rows.csv", *column))
+            self.refusal(self.run_tool("picture", "--sweep", "rows.csv", "--column", "q.sends"))
 
     @needs_program
     def test_curve_of_a_sweep(self):
@@ -163,6 +131,3 @@ class Curves(Readable):
         self.assertIn("mean, and least to greatest, of 4 runs", out)
         self.assertIn("<title>What count.left does</title>\n <desc>jobs.age_p95: mean, and least to greatest, of 4 "
                       "runs (bars: 95 % interval of the mean)</desc>", out)
-
-
-LONG_WORDS = "a,failed,queue,sends\n" + "".join(f"w{number},,q,1\n" for number in range(41))

@@ -8,7 +8,7 @@ import json
 import random
 import unittest
 
-from tool import HEADER, MD5, ToolCase, log_at, needs_program, printed, text_at
+from tool import HEADER, MD5, ToolCase, log_at, needs_program, printed
 from scenario_texts import between, consumer, producer, queue_of, scenario_of, script, task
 from rehearse_tools.doors import Doors
 from rehearse_tools.logs import Rows
@@ -17,9 +17,6 @@ from rehearse_tools.runs import Output
 
 # m-0-0 is dead-lettered to d, moved back as m-0-1, and forwarded to b, where it is deleted 9.2 s after it was sent.
 CHAIN = log_at("chain.log")
-STEADY = scenario_of(60_000, queue_of("a"), queue_of("b"),
-                  consumer("w", "a", 1_000, wait_s=20, idle_ms=1, forward="b", latency_ms=500),
-                  consumer("v", "b", 1_000, wait_s=20, idle_ms=1), producer("shop", "a", 5, 5_000))
 
 
 def two_forwards(first_out: int, second_out: int, first_in: int, second_in: int) -> str:
@@ -122,7 +119,6 @@ class ByHand(ToolCase):
             with self.subTest(what=what):
                 self.write("run.log", text)
                 self.assert_fault(self.run_tool("summary", "run.log", "--door"), f"summary: {line}")
-        self.assert_hostile_logs("summary", "--door")
 
 
 def chain(seed: int) -> str:
@@ -172,57 +168,3 @@ class Random(unittest.TestCase):
                         self.assertEqual(door.at, sent[record[9]], seed)
         self.assertGreater(known, 1_000)
         self.assertGreater(wrong, 100)
-
-
-@needs_program
-class Sweeps(ToolCase):
-    def test_columns_and_requirements(self) -> None:
-        """The message is served for a second in a and in b, and takes 500 ms from one to the other: 2.5 s in all."""
-        scenario = self.write("s.toml", STEADY)
-        words = scenario, "--vary", "seed=1", "--columns", "deletes,door_age_p50,door_age_max"
-        status, out, _ = self.run_tool("sweep", *words)
-        self.assertEqual((status, out), (0, "seed,failed,queue,deletes,door_age_p50,door_age_max\n1,,a,5,1000,1000\n"
-                                            "1,,b,5,2500,2500\n"))
-        for text, status in (("b.door_age_p95<=2500ms", 0), ("b.door_age_p95<2500ms", 1)):
-            self.assertEqual(self.run_tool("sweep", *words, "--require", text)[0], status)
-        # sent at 0, 5, .. 20 s, so that two of five are deleted before 10 s
-        self.assertEqual(self.run_tool("sweep", *words, "--from", "10s")[1].splitlines()[2], "1,,b,3,2500,2500")
-        ran = self.run_tool("report", scenario, "--require", "b.door_age_p95<1s", "--output", "r.html")
-        self.assertEqual(ran, (1, "", "report: b.door_age_p95<1s fails: it is 2500 ms, 2.50 s\n"))
-
-    def test_messages_that_may_still_come(self) -> None:
-        """Message k is sent at 500 k ms and served in a for a second from 1001 k on, as its consumer rests for 1 ms. It
-        is deleted in b 1.5 s later, 501 k + 2500 ms old. By 20 s those up to 17 are, the last one 11017 ms old, 18 is in
-        b, and 19 to 40 are in a, 10500 ms old or less. With these, 39 of 41 ages may be up to the 10516 ms of 16."""
-        text = STEADY.replace("count = 5", "count = 50").replace("5000", "500").replace("60000", "20000")
-        scenario = self.write("s.toml", text)
-        told = ("it is 11017 ms, 11.0 s, of those deleted, and 10516 ms or more with the 1 that are left and the 22 "
-                "that may still come (56.1 %)")
-        require = "--require", "b.door_age_p95<12s"
-        status, _, err = self.run_tool("sweep", scenario, *require)
-        self.assertEqual((status, err.splitlines()[1]),
-                         (1, f"sweep: {require[1]} is undecided with the scenario as it is: {told}"))
-        self.assertEqual(self.run_tool("report", scenario, *require, "--output", "r.html"),
-                         (1, "", f"report: {require[1]} is undecided: {told}\n"))
-        _, err = self.ends(1, self.run_tool("sweep", scenario, "--require", "b.door_age_p95<10s"))
-        self.assertIn("b.door_age_p95<10s fails", err)
-        # the middle one of those deleted is 6508 ms old, and 4504 ms if the youngest come
-        for bound, word in (("4504ms", ""), ("4505ms", "is undecided"), ("6509ms", "is undecided")):
-            require = "--require", f"b.door_age_p50>={bound}"
-            _, _, err = self.run_tool("report", scenario, *require, "--output", "r.html")
-            self.assertIn(word, err)
-            self.assertEqual(bool(err), bool(word), bound)
-        self.assertEqual(self.run_tool("report", scenario, "--require", "b.door_age_max>=11s", "--output", "r.html"),
-                         (0, "", ""))
-        self.assertIn("<td>also with the 1 that are left and the 22 that may still come (56.1 %)</td>", text_at(self.path("r.html")))
-        told = self.run_tool("summary", "-", "--door", "--queue", "b", stdin=printed("run", scenario).encode())[1]
-        self.assertIn("\n     may still come                      22\n", told)
-
-    def test_a_way_that_no_message_went(self) -> None:
-        """The scenario has a way from c to b by a dead-letter queue and its task, which the log does not show."""
-        more = (queue_of("c", dead_letter="d", max_receives=1, latency_ms=9) + queue_of("d") + producer("late", "c", 3, 1)
-                + task("t", "d", to="b", latency_ms=9))
-        for text, status in ((STEADY, 0), (STEADY + more, 1)):
-            ran = self.run_tool("sweep", self.write("s.toml", text), "--require", "b.door_age_p95<3s")
-            self.assertEqual(ran[0], status, ran[2])
-        self.assertIn("with the 3 that may still come (37.5 %)", ran[2])

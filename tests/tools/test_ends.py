@@ -62,6 +62,17 @@ class Ends(ToolCase):
         self.addCleanup(process.kill)
         return process, told
 
+    def wait_for_the_program(self, process: "subprocess.Popen[bytes]", told: int) -> None:
+        """Waits until the program runs, or until the tool has ended, which then has said why."""
+        poll, end = select.poll(), os.pidfd_open(process.pid)
+        self.addCleanup(os.close, end)
+        for file in (told, end):
+            poll.register(file, select.POLLIN)
+        ready = dict(poll.poll(1000 * TIMEOUT))
+        self.assertTrue(ready, "the program does not run")
+        if told not in ready:
+            self.fail(process.communicate()[1].decode())
+
     def said(self, told: int) -> bytes:
         """What programs say by the pipe; nothing once none of them is left."""
         poll = select.poll()
@@ -75,6 +86,7 @@ class Ends(ToolCase):
                 for number in (SIGNALS if place < 2 else (signal.SIGHUP, signal.SIGKILL))}
         for (name, number), (process, told) in runs.items():
             with self.subTest(tool=name, signal=number.name):
+                self.wait_for_the_program(process, told)
                 self.assertEqual(self.said(told)[:5], b"runs\n")
                 process.send_signal(number)
                 errors = process.communicate(timeout=TIMEOUT)[1].decode()

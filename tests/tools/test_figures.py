@@ -14,7 +14,7 @@ from test_summary import LOG, PARTS
 from tool import PROGRAM, ToolCase, log_at, needs_program, printed, text_at
 from scenario_texts import consumer, queue_of, scenario_of, script
 from rehearse_tools import runs
-from rehearse_tools.figures import AGES, COLUMNS, OF_QUEUE, OF_REPORT, Figures, bounds_of, figures_in
+from rehearse_tools.figures import AGES, OF_QUEUE, OF_REPORT, Figures, bounds_of, figures_in
 from rehearse_tools.scenarios import consumers_of, names_of, parsed
 from rehearse_tools.statistics import Interval
 from figures import Fields, Stretch, busy, depths, flights, peak, tries
@@ -83,20 +83,6 @@ class Readers(ToolCase):
 
 
 class ByHand(unittest.TestCase):
-    def test_columns(self) -> None:
-        """Of 62.5 s left is busy for 4.5 s, which is 7.2 %. Nothing consumes d."""
-        figures, counting = Figures(0, 62_499, CONSUMERS), runs.Counting(0, 62_499)
-        by_report = runs.report_of(io.StringIO(LOG + PARTS + FIGURES), figures)
-        by_log, ages, is_open = runs.reported(io.StringIO(LOG + PARTS + FIGURES), counting, figures) or ([], {}, True)
-        self.assertEqual(by_report, (by_log, ages, is_open))
-        self.assertEqual([[record[0], *record[-6:]] for record in by_log],
-                         [["a", "200", "3", "300", "1", "2", "7.2"], ["d", "5220", "0", "0", "0", "0", ""]])
-        first = 1 + len(runs.ALL_COLUMNS) - len(COLUMNS)
-        self.assertEqual([record[first:-6] for record in by_log],
-                         [["100", "", "101", "103", "104", "105", "106", "107", "108", "109"],
-                          ["200", "", "", "203", "204", "205", "206", "207", "208", "209"]])
-        self.assertEqual([ages["a"].bounds[column] for column in (*AGES, *OF_REPORT)],
-                         [Interval(low, low + 1) for low in range(110, 132, 2)])
 
     def test_bounds_and_moments_that_are_open(self) -> None:
         """No bound above, no bound below, no backlog; and what a million requests cost."""
@@ -134,16 +120,6 @@ class Sweeps(ToolCase):
         out, _ = self.ends(0, self.run_tool("sweep", self.scenario, *words))
         return list(csv.reader(io.StringIO(out)))[1:]
 
-    def test_columns(self) -> None:
-        """Whole; from 2 s on, when two are there, in flight, and slow is busy for 1.5 of 8 s; to 3 s, of which slow is
-        busy for two; and with a copy of quick, which begins with it."""
-        for words, wanted in (((), "2,2,1100,0,1,25"), (("--from", "2s"), "2000,2,2000,0,1,18.75"),
-                              (("--to", "2999"), "2,2,1100,0,1,66.66"), (("--zip", "count.quick=2"), "2,3,1100,0,1,25")):
-            rows = self.rows("--vary", "seed=1", *words, "--columns", NAMES)
-            found = {row[-7]: ",".join(row[-6:]) for row in rows}
-            first = 2000 if words[:1] == ("--from",) else 0
-            self.assertEqual(found, {"q": wanted, "idle": f"{first},0,{first},0,0,"}, words)
-
     def test_no_log_is_read_for_them(self) -> None:
         """It is read for ages since the first send alone, also where something is cut off at the beginning."""
         path, asked = self.write("program", f'#!/bin/sh\necho "$*" >> {self.path("asked")}\nexec {PROGRAM} "$@"\n'), []
@@ -155,40 +131,6 @@ class Sweeps(ToolCase):
         whole, later = (f"--figures --from {first} --window-figures 300000" for first in (0, 2000))
         self.assertEqual(asked, [f"{words} --log /dev/null" for words in (whole, later)] * 3 + [
             whole, later, "--log /dev/null", f"{later} --log /dev/null"])
-
-    def test_requirements(self) -> None:
-        """A share of time is in percent, and a moment is a time."""
-        words = [word for text in ("q.busy<25%", "q.busy>=25", "q.busy < 25.01 %", "q.in_flight_max<2", "*.busy<1",
-                                   "q.depth_max_at_ms<2ms", "q.in_flight_max_at_ms>1s")
-                 for word in ("--require", text)]
-        status, _, err = self.run_tool("sweep", self.scenario, *words)
-        self.assertEqual((status, err.splitlines()[1:]), (1, [f"sweep: {line}" for line in (
-            "q.busy<25% fails with the scenario as it is: it is 25 %",
-            "q.in_flight_max<2 fails with the scenario as it is: it is 2",
-            "*.busy<1 of q fails with the scenario as it is: it is 25 %",
-            "q.depth_max_at_ms<2ms fails with the scenario as it is: it is 2 ms, 2 ms",
-            "*.busy<1 of idle fails with the scenario as it is: it has no consumer",
-            "requirements that hold: 3 of 8")]))
-        self.assert_stored_faults("figures")
-
-    def test_requirements_of_a_report(self) -> None:
-        words = self.scenario, "--require", "q.busy<25%", "--require", "q.in_flight_max=2", "--output", "r.html"
-        self.assertEqual(self.run_tool("report", *words), (1, "", "report: q.busy<25% fails: it is 25 %\n"))
-        self.assertEqual(self.run_tool("report", *words, "--from", "2s"), (0, "", ""))
-
-    def test_over_runs(self) -> None:
-        """A requirement may be one on a share of runs, and numbers are put together as others."""
-        status, out, err = self.run_tool("sweep", self.scenario, "--vary", "seed=1..3", "--spread", "seed", "--columns",
-                                         "busy", "--require", "q.busy<30% in 10%")
-        self.assertEqual((status, out.splitlines()[1]), (0, ",q,3,25,0,25,25,25,0,,"), err)
-        self.assertIn("sweep: q.busy<30% in 10% is shown: 3 of 3 runs", err)
-
-    def test_shares_have_none(self) -> None:
-        words = "--vary", "seed=1", "--share", "1/1", "--results", "d"
-        self.assertEqual(self.run_tool("sweep", self.scenario, *words)[0], 0)
-        for asked in (("--columns", "busy"), ("--require", "q.in_flight_max<9")):
-            self.assertIn("shares and jobs have the columns of the report alone, and none of door_age_p50, ",
-                          self.refusal(self.run_tool("sweep", "--collect", "d", *asked)))
 
     def test_random_scenarios(self) -> None:
         """The columns are those that the reference makes of the log."""

@@ -27,51 +27,11 @@ def plan_of(resources=(), configurations=(), modules=(), **calls):
             "configuration": {"root_module": {"resources": [*configurations], "module_calls": calls}}}
 
 
-# The root has orders with failed; the module pay has a queue whose policy is a resource of its own and names, by a
-# variable, the output of the module dead.
-PLAN = {
-    "format_version": "1.2",
-    "planned_values": {"root_module": {
-        "resources": [
-            resource("aws_sqs_queue.orders", name="orders", visibility_timeout_seconds=45, delay_seconds=0,
-                     message_retention_seconds=86400, receive_wait_time_seconds=20, max_message_size=262144,
-                     fifo_queue=False, tags=None),
-            resource("aws_sqs_queue.failed", name="failed", visibility_timeout_seconds=30, delay_seconds=5,
-                     message_retention_seconds=1209600),
-            resource("data.aws_sqs_queue.other", mode="data", name="other"),
-            resource("aws_sns_topic.news", of="aws_sns_topic", name="news")],
-        "child_modules": [
-            {"address": "module.pay", "resources": [
-                resource("module.pay.aws_sqs_queue.this[0]", name="pay.fifo", fifo_queue=True,
-                         content_based_deduplication=True, deduplication_scope="messageGroup"),
-                resource("module.pay.aws_sqs_queue_redrive_policy.this[0]", of="aws_sqs_queue_redrive_policy")]},
-            {"address": "module.dead", "child_modules": [{"address": "module.dead.module.inner", "resources": [
-                resource("module.dead.module.inner.aws_sqs_queue.dead", fifo_queue=True)]}]}]}},
-    "configuration": {"root_module": {
-        "resources": [configured("aws_sqs_queue.orders", redrive_policy=["aws_sqs_queue.failed.arn",
-                                                                         "aws_sqs_queue.failed"])],
-        "module_calls": {
-            "pay": {"expressions": {"dead_arn": {"references": ["module.dead.arn", "module.dead"]}},
-                    "module": {"resources": [configured("aws_sqs_queue_redrive_policy.this",
-                                                        queue_url=["aws_sqs_queue.this[0].id", "aws_sqs_queue.this[0]"],
-                                                        redrive_policy=["var.dead_arn"])]}},
-            "dead": {"module": {"outputs": {"arn": {"expression": {"references": ["module.inner.arn"]}}},
-                                "module_calls": {"inner": {"module": {"outputs": {"arn": {"expression": {
-                                    "references": ["aws_sqs_queue.dead.arn"]}}}}}}}}}}},
-}
 PLANS = os.path.join(os.path.dirname(os.path.abspath(__file__)), "plans")
-# What is made of the plan and of the template, as far as their queues; sam.yaml has events and conditions.
-TABLES, TEMPLATE, TEMPLATE_TABLES, SAM = (text_at(PLANS, name) for name in (
-    "plan.toml", "template.yaml", "template.toml", "sam.yaml"))
-STORED = ("modules/plan.json", "nested/plan.json", "wiring/plan.json", "wiring/state.json")
-TEMPLATE_IN_JSON = {
-    "Conditions": {"C": {"Fn::Not": [{"Fn::Equals": [{"Ref": "P"}, "x"]}]}}, "Parameters": {"P": {"Default": "y"}},
-    "Resources": {
-        "Q": {"Type": "AWS::SQS::Queue", "Properties": {"DelaySeconds": {"Fn::If": ["C", 1, {"Ref": "AWS::NoValue"}]}}},
-        "F": {"Type": "AWS::Serverless::Function", "Properties": {"Events": {
-            "E": {"Type": "SQS", "Properties": {"Queue": {"Fn::GetAtt": ["Q", "Arn"]}, "BatchSize": 3}}}}},
-        "T": {"Type": "AWS::SNS::Topic", "Properties": {"Subscription": [
-            {"Protocol": "sqs", "Endpoint": {"Fn::Sub": "${Q.Arn}"}}]}}}}
+# A plan and a template, and what is made of them as far as their queues; sam.yaml has events and conditions.
+PLAN, TABLES, TEMPLATE, TEMPLATE_TABLES, SAM = (text_at(PLANS, name) for name in (
+    "plan.json", "plan.toml", "template.yaml", "template.toml", "sam.yaml"))
+STORED = ("modules/plan.json", "nested/plan.json", "wiring/plan.json", "wiring/state.json", "template.json")
 OTHERS = (None, 0, -1, 1.5, "", [], {}, True, "x", ["a"], {"a": 1}, "module.a", "each.value", "[[", "a" * 2_000,
           {"Ref": "Q"}, {"Fn::If": ["C", 1, 2]}, {"Condition": "C"})
 from_plan = module_of("from-plan")
@@ -97,33 +57,7 @@ class FromPlan(ToolCase):
         return out[out.index("horizon"):].partition("\n")[2]
 
     def test_plan(self):
-        self.assertTrue(self.made(json.dumps(PLAN)).startswith(f"\n{TABLES}"))
-
-    def test_state(self):
-        """A state tells all values, as that of a policy and of a queue's URL."""
-        policy = json.dumps({"deadLetterTargetArn": ARN + "gone", "maxReceiveCount": 4})
-        url = "https://sqs.eu-central-1.amazonaws.com/123456789012/b"
-        state = {"values": {"root_module": {"resources": [
-            resource("aws_sqs_queue.a", name="a", redrive_policy=policy), resource("aws_sqs_queue.b", name="b"),
-            resource("aws_sqs_queue_redrive_policy.b", of="aws_sqs_queue_redrive_policy", queue_url=url,
-                     redrive_policy=policy.replace("4", "5"))]}}}
-        made = self.made(json.dumps(state))
-        for name, most in (("a", 4), ("b", 5)):
-            self.assertIn(f'name = "{name}"\ndead_letter = "gone"\nmax_receives = {most}\n', made)
-        self.assertIn("# DEFAULT: all its settings, as no resource is of this dead-letter queue of a.\n", made)
-
-    def test_queues_with_an_index_have_the_dead_letter_queue_of_the_same_index(self):
-        values = [resource(f'aws_sqs_queue.{name}["{key}"]', name=f"{name}-{key}") for name in "qd" for key in "xy"]
-        policy = configured("aws_sqs_queue.q", redrive_policy=["aws_sqs_queue.d", "each.key"])
-        made = self.made(json.dumps(plan_of(values, [policy])))
-        for key in "xy":
-            self.assertIn(f'name = "q-{key}"\ndead_letter = "d-{key}"\n', made)
-
-    def test_dead_letter_queue_that_the_plan_does_not_tell(self):
-        plan = plan_of([resource("aws_sqs_queue.q", name="q")],
-                       [configured("aws_sqs_queue.q", redrive_policy=["local.policy"])])
-        self.assertIn("# DEFAULT: no dead-letter queue, as the plan does not tell which one its policy names.\n",
-                      self.made(json.dumps(plan)))
+        self.assertTrue(self.made(PLAN).startswith(f"\n{TABLES}"))
 
     def stored(self, name):
         """The scenario that is made of a stored plan, and what standard error reports."""
@@ -294,24 +228,6 @@ class FromPlan(ToolCase):
             self.assertEqual(printed("check", "--preview", self.path("s.toml")),
                              "ok queues=4 actors=12 tasks=0 least=100\n")
 
-    def test_a_policy_that_cannot_be_placed(self):
-        """Standard error names it, and the queues are made without it."""
-        queues = [resource(f"aws_sqs_queue.{name}", name=name) for name in "ab"]
-        policy = resource("aws_sqs_queue_redrive_policy.p", of="aws_sqs_queue_redrive_policy")
-        plan = plan_of([*queues, policy], [configured("aws_sqs_queue_redrive_policy.p", queue_url=["local.url"])])
-        self.assertIn("# DEFAULT: no dead-letter queue by aws_sqs_queue_redrive_policy.p, as the plan does not tell "
-                      "whose it is.\n", self.made(json.dumps(plan)))
-
-    def test_references_without_end(self):
-        """Modules whose outputs refer to each other end in one line."""
-        call = {"expressions": {"v": {"references": ["module.b.out", "module.c.out"]}}, "module": {
-            "outputs": {"out": {"expression": {"references": ["var.v", "var.v.x", "var.v.y"]}}},
-            "resources": [configured("aws_sqs_queue.q", redrive_policy=["var.v"])]}}
-        children = [{"resources": [resource(f"module.{name}.aws_sqs_queue.q", name=name)]} for name in "abc"]
-        plan = json.dumps(plan_of(modules=children, **{name: call for name in "abc"}))
-        self.assert_fault(self.run_tool("from-plan", self.write("given", plan)),
-                          "from-plan: the plan has over 1,000,000 references")
-
     def test_sam_and_conditions(self):
         """By the parameter Stage the queue Extra is there, and the visibility timeout of Jobs is given."""
         made = toml_of(self.made(SAM))
@@ -332,7 +248,7 @@ class FromPlan(ToolCase):
                                         f"    Properties: {{VisibilityTimeout: {number}}}\n")
             err = self.refusal(self.run_tool("from-plan", path))
             self.assertIn(f"{path} is neither JSON nor YAML: {told or ''}", err)
-        self.assert_fault(self.run_tool("from-plan", self.write("given", json.dumps(PLAN)), "--parameter", "a=b"),
+        self.assert_fault(self.run_tool("from-plan", self.write("given", PLAN), "--parameter", "a=b"),
                           "from-plan: --parameter goes with a template; a plan has the values of its variables")
 
     def test_template(self):
@@ -348,27 +264,6 @@ class FromPlan(ToolCase):
         self.assertIn('name = "test-orders"\ndead_letter = "Failed"\nmax_receives = 3\n', made)
         self.assertIn("# DEFAULT: its name, as Nothing has no default in the template.\n", made)
 
-    def test_faults(self):
-        queue = {"Type": "AWS::SQS::Queue"}
-        laughs = "a: &a [x]\n" + "".join(f"{b}: &{b} [*{a}, *{a}, *{a}, *{a}, *{a}, *{a}, *{a}, *{a}, *{a}, *{a}]\n"
-                                         for a, b in zip("abcdefgh", "bcdefghi"))
-        for text, line in (
-                (json.dumps({"Resources": {"A": {**queue, "Properties": {"QueueName": "a b"}}}}),
-                 "A has a name that no scenario has: a b"),
-                (json.dumps({"Resources": {"A": {**queue, "Properties": {"DelaySeconds": 901}}}}),
-                 "A: DelaySeconds of 901 is beyond a scenario, which has 0 to 900"),
-                (json.dumps({"Resources": {"A": {"Type": "AWS::SNS::Topic"}}}), "given has no queues"),
-                ("Resources: {A: {Type: 'AWS::SQS::Queue', Properties: {Policy: *i}}}", None),
-                (laughs + "Resources: {A: {Type: 'AWS::SQS::Queue', Properties: {Policy: *i}}}",
-                 "the template has over 1,000,000 values in its queues"),
-                *((text, "given is neither what `terraform show -json` prints nor a template of CloudFormation")
-                  for text in ("", "{}", "[]", "null", "at,queue\n", '{"values": {}}', "Resources: []", "5"))):
-            with self.subTest(text=text[:80]):
-                self.write("given", text)
-                err = self.refusal(self.run_tool("from-plan", "given"))
-                if line:
-                    self.assertEqual(err, f"from-plan: {line}\n")
-
     def test_files_of_other_kinds(self):
         for data in (b"\x00\xff", bytes(range(256)), b"{" * 100_000, b"[" * 100_000, b"- " * 100_000, b"a: !x {b: [",
                      b"\xff\xfea", b'{"Resources": {"A"', b"{\"values\": " + b"9" * 9_000 + b"}", b"? [a]\n: b\n",
@@ -383,8 +278,7 @@ class FromPlan(ToolCase):
     def test_plans_with_other_values(self):
         """Some value of a stored plan or template is another one: that is a scenario or a fault, and no traceback."""
         chance, ends = random.Random(7), []
-        documents = [json.loads(text) for text in (*(text_at(PLANS, name) for name in sorted(STORED)),
-                                                        json.dumps(TEMPLATE_IN_JSON))]
+        documents = [json.loads(text_at(PLANS, name)) for name in STORED]
         for _ in range(300):
             document = copy.deepcopy(chance.choice(documents))
             for _ in range(chance.choice((1, 1, 3))):
@@ -402,7 +296,7 @@ class FromPlan(ToolCase):
         """If the library is missing, the error names its package; JSON needs none."""
         code = "import sys; sys.modules['yaml'] = None; sys.argv[0] = sys.argv.pop(1); import runpy; " \
                "runpy.run_path(sys.argv[0], run_name='__main__')"
-        for text, called, wanted in ((TEMPLATE, "", "tools/setup"), (json.dumps(PLAN), "", None),
+        for text, called, wanted in ((TEMPLATE, "", "tools/setup"), (PLAN, "", None),
                                      (TEMPLATE, "sqs_rehearse from-plan", "sqs_rehearse setup")):
             command = [sys.executable, "-c", code, os.path.join(TOOLS, "from-plan"), self.write("given", text)]
             environment = {**os.environ, "PYTHONPATH": TOOLS, "SQS_REHEARSE_TOOL": called}
@@ -413,7 +307,7 @@ class FromPlan(ToolCase):
 
     @needs_program
     def test_what_is_made_runs(self):
-        for text in (json.dumps(PLAN), TEMPLATE):
+        for text in (PLAN, TEMPLATE):
             self.assertEqual(self.run_tool("from-plan", self.write("given", text), "--output", "s.toml")[0], 0)
             run = printed("run", "--log", os.devnull, self.path("s.toml"))
             sends = [line.split(",")[1:3] for line in run.splitlines() if line.startswith("report,")][1:]

@@ -4,7 +4,7 @@ import re
 import shutil
 import subprocess
 
-from tool import PROGRAM, ToolCase, needs_program, printed, text_at
+from tool import HERE, PROGRAM, ToolCase, needs_program, printed, text_at
 
 SCENARIO = """version = 1
 horizon = 5
@@ -19,36 +19,10 @@ calls = "at,call,body,group,id,delay,receipt,max,wait,timeout,task\\n0,send,abc,
 KINDS = ("one", "many", "fifo", "hot", "ring", "net", "chain", "fan", "flight", "backlog", "delay", "scripts", "sample",
          "quiet")
 # A program that takes the words of a run and writes ROWS rows of a log.
-WRITER = """#include <stdio.h>
-int main(int count, char **words) {
-    FILE *log = count > 4 ? fopen(words[3], "w") : NULL;
-    for (int row = 0; log && row <= ROWS; row++) fputs("row\\n", log);
-    return log && fclose(log) ? 1 : 0;
-}
-"""
+WRITER = text_at(HERE, "stand-ins", "writer.c")
 # Counts as valgrind writes them: those of the other program are half as many, but for the branches, of which it has a
 # quarter.
-VALGRIND = """#!/bin/bash
-for word; do case $word in --cachegrind-out-file=*) out=${word#*=} ;; esac; done
-case $out in
-  */other.counts) counts="400 1 100 1 4 1 1" ;;
-  *) counts="800 1 200 1 15 1 5" ;;
-esac
-printf 'desc: I1 cache: none\\nevents: Ir Dr Dw Bc Bcm Bi Bim\\nsummary: %s\\n' "$counts" > "$out"
-"""
-REFUSALS = """=== b: refused 10 NotToml
-x
-
-
-=== c: refused 12 MissingKey at version
-y
-\\ No newline at end of text
-
-"""
-OUTPUT = """at,queue,agent,call,answer,message,receipt,detail
-0,q,s,send,new,m-0-0,,900150983cd24fb0d6963f7d28e17f72
-final,queue,message,origin,place,due,enqueued,receives,group,md5
-"""
+VALGRIND = text_at(HERE, "stand-ins", "valgrind")
 
 
 class Bench(ToolCase):
@@ -133,38 +107,10 @@ class Bench(ToolCase):
 
 
 class Cases(ToolCase):
-    def test_a_case_that_runs_and_one_that_is_refused(self):
+    def test_an_output_that_is_no_text(self):
+        """Nothing is written; sessions/compute_cases.txt has the other faults."""
         self.write("cases/a.toml", SCENARIO)
-        self.write("cases/a.out", OUTPUT)
-        self.write("f.refusals", REFUSALS)
-        words = "out.antt", "f.refusals", "cases"
-        self.assertEqual(self.run_tool("compute_cases.py", *words), (0, "3 lemmas in out.antt\n", ""))
-        text = text_at(self.path("out.antt"))
-        self.assertIn("""-- f/b.toml\ncase_0_b : shown 0 [] (codes "x\\n\\n")\n    ≡ refused (codes "refused 10 NotToml\\n")\n""",
-                      text)
-        self.assertIn("""case_0_c : shown 0 [] (codes "y")\n""", text)
-        self.assertIn("""codes "new") ∷ (codes "m-0-0") ∷ [] ∷ digest (codes "abc") ∷ [])""", text)
-        self.assertEqual(self.run_tool("compute_cases.py", *words, "--most", "0")[1], "2 lemmas in out.antt\n")
-        self.assertEqual(self.run_tool("compute_cases.py", *words, "--but", "b", "--only", "b")[1],
-                         "0 lemmas in out.antt\n")
-
-    def test_faults(self):
-        self.write("cases/a.toml", SCENARIO)
-        for data, line in ((None, "cannot read cases/a.out: No such file or directory"),
-                           (b"", "cases/a.out is not the output of cases/a.toml"),
-                           (b"\xff", "cases/a.out is not the output of cases/a.toml")):
-            if data is not None:
-                self.write("cases/a.out", data)
-            self.assert_fault(self.run_tool("compute_cases.py", "out", "cases"), f"compute_cases.py: {line}")
-        for name in "none", "none.refusals":
-            self.assert_fault(self.run_tool("compute_cases.py", "out", name),
-                              f"compute_cases.py: cannot read {name}: No such file or directory")
-        for text in "", f"\n{REFUSALS}", "x = 1\n":
-            self.write("x.refusals", text)
-            self.assert_fault(self.run_tool("compute_cases.py", "out", "x.refusals"),
-                              "compute_cases.py: x.refusals does not begin with a line '=== NAME: refused ..'")
-        os.remove(self.path("x.refusals"))
-        self.assert_fault(self.run_tool("compute_cases.py", "cases/a.toml/x", "cases"),
-                          "compute_cases.py: cannot write cases/a.toml/x: Not a directory")
-        self.assertEqual(self.run_tool("compute_cases.py", "--help")[0::2], (0, ""))
+        self.write("cases/a.out", b"\xff")
+        self.assert_fault(self.run_tool("compute_cases.py", "out", "cases"),
+                          "compute_cases.py: cases/a.out is not the output of cases/a.toml")
         self.assertEqual(os.listdir(self.folder), ["cases"])

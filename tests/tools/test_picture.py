@@ -360,8 +360,6 @@ class Tool(ToolCase):
         self.assert_fault(self.run_tool("picture", "log", "--title", "a\x01b"),
                           "picture: a title is one line of printable characters: 'a\\x01b'")
 
-    def test_hostile_logs(self):
-        self.assert_hostile_logs("picture")
 
     def test_a_height_that_is_too_small_tells_one_that_is_enough(self):
         log = self.write("log", ended(LOG))

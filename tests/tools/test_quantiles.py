@@ -17,7 +17,6 @@ from tool import ToolCase, module_of, needs_program, printed
 from rehearse_tools.console import toml_of
 
 quantiles = module_of("quantiles")
-NEITHER = "it takes a FILE, or two of --pN, or one and --mean (--help tells the usage)"
 # Of lognormal times through p50 = 120 and p99 = 900: 2.3263 is the normal variable below which 99 % are.
 LOGNORMAL = 120 * math.exp((math.log(900 / 120) / 2.3263) ** 2 / 2)
 
@@ -206,34 +205,6 @@ class Quantiles(ToolCase):
         self.assertRegex(lines[6], r"^# Error: -6\d\.\d\d %$")
         self.assertEqual(lines[7:], ["# No nearer: 32 pairs of whole permilles, with times up to 86,400,000 ms, do not "
                                      "have this deviation, but with a tail that is far off."])
-
-    def test_faults(self):
-        path, empty = self.write("t.csv", "ms\n12\n0.5\n"), self.write("empty", "\n\n")
-        self.assert_faults("quantiles", (
-                ((empty,), f"{empty} has no times"), (("none",), "cannot read none: No such file or directory"),
-                ((self.write("header", "ms\n"), "--column", "ms"), f"{self.path('header')} has no times"),
-                ((path,), f"{path}: record 1 is no time in milliseconds: ms"),
-                ((path, "--column", "ms"), f"{path}: record 3 is 0.5, and a time of a scenario has 1 to 86,400,000 ms"),
-                ((path, "--column", "s"), f"{path} has no column s; it has ms"),
-                ((self.write("comma", "12,5\n"),), f"{self.path('comma')}: record 1 is no time in milliseconds: 12,5"),
-                ((self.write("long", "86400001\n"),),
-                 f"{self.path('long')}: record 1 is 86400001, and a time of a scenario has 1 to 86,400,000 ms"),
-                ((path, "--p50", "12"), "a FILE stands without --pN, --mean and --max (--help tells the usage)"),
-                ((), NEITHER), (("--p50", "12"), NEITHER), (("--p50", "12", "--p50", "13"), NEITHER),
-                (("--mean", "12", "--max", "99"), NEITHER), (("--p50", "12", "--max", "99"), NEITHER),
-                (("--p50", "1.5s", "--p99", "99"), "--p50 is no time in milliseconds: 1.5s"),
-                (("--p50", "12", "--p99", "11"), "--p99 of 11 is less than --p50 of 12"),
-                (("--p50", "12", "--p99", "20", "--max", "19"), "--max of 19 is less than --p99 of 20"),
-                (("--p50", "120", "--mean", "100"), "no lognormal law with p50 = 120 has a mean of 100"),
-                (("--p50", "120", "--p99", "900", "--mean", "68"),
-                 "no such law through p50 = 120, p99 = 900 has a mean of 68"),
-                (("--p50", "120", "--p99", "900", "--max", "1000", "--mean", "520"),
-                 "no such law through p50 = 120, p99 = 900 has a mean of 520"),
-                (("--p50", "120", "--p99", "900", "--pairs", "7"),
-                 "--pairs is 8 to 32, and 3 more than the quantiles that are given"),
-                (("--p100", "12", "--p99", "900"), "unrecognized arguments: --p100 (--help tells the usage)"),
-                (("--p50", "12", "--key", "time"), "argument --key: invalid choice: 'time' (choose from 'service', "
-                                                   "'gap') (--help tells the usage)")))
 
     @needs_program
     def test_what_is_made_runs(self):

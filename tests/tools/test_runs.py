@@ -226,11 +226,6 @@ class Sweeps(ToolCase):
             self.assertEqual({column: row[column] for column in COLUMNS}, counts)
             self.assertGreater(int(row["sends"]), 0)
 
-    def test_requirements_use_them(self) -> None:
-        words = self.scenario, "--require", "q.sends<45"
-        self.assertEqual(self.run_tool("sweep", *words)[0], 1)
-        self.assertEqual(self.run_tool("sweep", *words, "--from", "30s")[0], 0)
-
     def test_shares_and_their_collection(self) -> None:
         """A share counts the same, and its mark is another than that of a share that counts all."""
         words = self.scenario, "--vary", "seed=1..4", "--from", "10s", "--to", "40s"
@@ -246,23 +241,6 @@ class Sweeps(ToolCase):
 
     def test_faults(self) -> None:
         self.assert_stored_faults("runs, sweep")
-
-    def test_ages_of_messages_that_are_left(self) -> None:
-        """Twice as many wait as were deleted: 90 s may hold or not, and 10 s fails for what is known already."""
-        words = "--require", "q.age_p95<90s", "--require", "q.age_p95<10s", "--require", "q.age_p95>10s"
-        _, err = self.ends(1, self.run_tool("sweep", self.scenario, *words, "--columns", "deletes,visible"))
-        lines = err.splitlines()[-3:]
-        self.assertRegex(lines[0], r"q.age_p95<90s is undecided with the scenario as it is: it is \d+ ms, \d\d.\d s, "
-                                   r"of those deleted, and \d+ ms or more with the \d+ that are left \(\d+\.\d %\)$")
-        self.assertIn("q.age_p95<10s fails with the scenario as it is", lines[1])
-        self.assertEqual(lines[2], "sweep: requirements that hold: 1 of 3")
-
-    def test_what_is_collected_has_no_log(self) -> None:
-        """Of a share there is the report alone, by which 90 s is open as well."""
-        words = "--vary", "seed=1", "--share", "1/1", "--results", "results"
-        self.assertEqual(self.run_tool("sweep", self.scenario, *words)[0], 0)
-        _, err = self.ends(1, self.run_tool("sweep", "--collect", "results", "--require", "q.age_p95<90s"))
-        self.assertIn("q.age_p95<90s is undecided with seed=1: ", err)
 
     def test_a_report_of_messages_that_are_left(self) -> None:
         status, out, err = self.run_tool("report", self.scenario, "--require", "q.age_p95<90s", "--output", "o.html")

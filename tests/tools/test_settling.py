@@ -42,30 +42,6 @@ class Advice(unittest.TestCase):
 
 @needs_program
 class Sweeps(ToolCase):
-    def hints(self, text: str, *words: str) -> list[str]:
-        """The lines of a sweep on standard error that advise something."""
-        path = self.write("s.toml", text)
-        _, err = self.ends(0, self.run_tool("sweep", path, "--vary", "seed=1..6", *words))
-        return [line for line in err.splitlines() if "--from" in line]
-
-    def test_a_queue_that_fills(self) -> None:
-        """It has settled after 1,200 s, in which the mean is 600.5; (1,200 x 600.5 + 4,800 x 1,200) / 6,000 = 1,080.1.
-        """
-        self.assertEqual(self.hints(LEFT_ALONE, "--spread", "seed"), [
-            "sweep: the runs settle late: in q the mean depth is 1,080.1 over all and 1,200.0 from 20m on; "
-            "--from 20m leaves their beginning out"])
-
-    def test_once_for_the_deepest_variant(self) -> None:
-        line, = self.hints(LEFT_ALONE, "--vary", "queue.q.retention_s=60,1500", "--spread", "seed")
-        self.assertIn(" from 25m on with queue.q.retention_s=1500; ", line)
-
-    def test_where_nothing_is_said(self) -> None:
-        for words in ((), ("--spread", "seed", "--from", "20m"), ("--spread", "seed", "--columns", "sends", "--vary",
-                                                                  "queue.q.retention_s=60")):
-            self.assertEqual(self.hints(LEFT_ALONE, *words), [])
-        for text in (LEFT_ALONE.replace("9000", "60"), LEFT_ALONE.replace("1200", "345600")):
-            self.assertEqual(self.hints(text, "--spread", "seed"), [])
-
     def test_a_picture(self) -> None:
         """It has each queue with messages, and where to begin; with --from, too, it is drawn from the beginning."""
         scenario = self.write("s.toml", LEFT_ALONE.replace("[[actor]]", '[[queue]]\nname = "empty"\n[[actor]]'))
@@ -77,10 +53,3 @@ class Sweeps(ToolCase):
             for wanted in ("When the runs settle", "over 6 runs", "q: settled from 20m on, by MSER-5"):
                 self.assertIn(wanted, text)
             self.assertNotIn("empty", text)
-
-    def test_no_picture(self) -> None:
-        scenario = self.write("s.toml", LEFT_ALONE)
-        words = "--vary", "seed=1..4", "--spread", "seed", "--settling", "x.png"
-        _, err = self.ends(0, self.run_tool("sweep", scenario, *words))
-        self.assertIn("sweep: --settling draws nothing: it needs five runs of one variant", err)
-        self.assert_stored_faults("settling")

@@ -1,4 +1,5 @@
-"""Tests tools/summary on logs written by hand, on the stored cases by their own reports, and on damaged input."""
+"""Tests tools/summary on the stored cases by their own reports, and on damaged input. Logs written by hand are in
+sessions/summary.txt."""
 import csv
 import glob
 import io
@@ -12,7 +13,7 @@ import sys
 import tempfile
 from unittest import mock
 
-from tool import HEADER, LIMIT, MD5, PROGRAM, ROOT, TOOLS, ToolCase, log_at, module_of, needs_program, open_end, printed, text_at
+from tool import HEADER, LIMIT, MD5, PROGRAM, ROOT, TOOLS, ToolCase, log_at, module_of, needs_program, printed, text_at
 from scenario_texts import script
 from rehearse_tools import summaries, whole_logs
 from rehearse_tools.console import Fault
@@ -63,85 +64,6 @@ class SummaryCase(ToolCase):
 
 
 class Definitions(SummaryCase):
-    def test_text(self):
-        self.write("run.txt", LOG + PARTS)
-        self.assertEqual(self.run_tool("summary", "run.txt"), (0, TEXT, ""))
-
-    def test_log_and_output_in_two_files(self):
-        self.write("run.txt", LOG)
-        self.write("run.out", PARTS)
-        self.assertEqual(self.run_tool("summary", "run.txt", "run.out"), (0, TEXT, ""))
-
-    def test_a_queue_that_nothing_happened_in(self):
-        line = "report,e," + ",".join(["0"] * 22) + ",0,,,,\n"
-        path = self.write("run.txt", LOG + PARTS + line)
-        status, out, _ = self.run_tool("summary", path, "--queue", "e")
-        self.assertEqual((status, out[out.index("\n\n"):]), (0, "\n\ne\n   no message came in, and nobody called it\n"))
-
-    def test_handled_by_receipts(self):
-        """A second call with a receipt, and one that was never given, count for nothing."""
-        self.assert_values(self.queues(LOG)["a"], handled_once=2, handled_more_than_once=1, times_handled_greatest=2)
-        self.assert_values(self.queues(FIFO)["f.fifo"], handled_once=0, handled_more_than_once=1, deleted=1,
-                           times_handled_greatest=2, repeated_sends=1, tries_mean=2.0, tries_greatest=2)
-
-    def test_a_receipt_whose_service_failed(self):
-        """A script deletes with it: before the timeout ends, which deletes the message, or after it."""
-        log = HEADER + "0,q,s,send,new,m-0-0,,x\n0,q,c,receive,ok,m-0-0,r-0-0-1,o-0-0\n10,q,c,fail,ok,m-0-0,r-0-0-1,\n"
-        after = "1000,q,q,release,visible,m-0-0,,\n2000,q,c,receive,ok,m-0-0,r-0-0-2,o-0-0\n" \
-            "5000,q,s,delete,kept,m-0-0,r-0-0-1,\n"
-        self.assert_values(self.queues(log + "500,q,s,delete,deleted,m-0-0,r-0-0-1,500\n")["q"], handled_once=1)
-        self.assert_values(self.queues(log + after)["q"], handled_once=0, DeleteMessage=1)
-        self.assertIn("with the receipt of a service that has failed, only an answer of deleted\n",
-                      self.run_tool("summary", "--help")[1])
-
-    def test_requests(self):
-        self.assert_values(self.queues(FIFO)["f.fifo"], SendMessage=3, ReceiveMessage=2, DeleteMessage=5,
-                           refused_requests=4, requests=10, empty_receives=0)
-        log = HEADER + "5,d,boss,start,ok,,,task\n6,d,boss,start,TaskRunning,,,task\n7,d,boss,cancel,ok,,,task\n" \
-            "8,d,boss,receive,OverLimit,,,\n9,d,boss,receive,BadTimeout,,,\n10,d,boss,receive,wait,,,\n"
-        self.assert_values(self.queues(log)["d"], StartMessageMoveTask=2, CancelMessageMoveTask=1, ReceiveMessage=3,
-                           empty_receives=0, refused_requests=3, requests=6)
-
-    def test_ways_between_queues(self):
-        queues = self.queues(WAYS)
-        self.assert_values(queues["a"], sent=2, came_in=2, forwarded=1, dead_lettered=1, dead_lettered_to=["d"], left=0,
-                           backlog_gone_at_ms=None, not_empty_since_ms=None, on_their_way_here=0)
-        self.assert_values(queues["d"], sent=0, came_in=1, came_by_forward=1, SendMessage=1, on_their_way_here=1,
-                           left=1, left_visible=None, left_in_flight=0, left_visible_or_delayed=1,
-                           backlog_gone_at_ms=None, not_empty_since_ms=1700)
-        rows = "2500,d,back,receive,ok,m-1-0,r-1-0-1,o-1-0\n2600,d,d,arrive,new,m-1-1,,o-0-1\n" \
-            "3000,d,task,move,out,m-1-1,,a\n3020,a,task,arrive,new,m-0-2,,o-0-1\n"
-        queues = self.queues(WAYS + rows)
-        self.assert_values(queues["a"], came_in=3, came_by_move=1, left=1, not_empty_since_ms=3020)
-        self.assert_values(queues["d"], came_in=2, came_by_redrive=1, moved_away=1, moved_to=["a"], left=1,
-                           left_in_flight=1, left_visible_or_delayed=0, on_their_way_here=0, depth_greatest=2,
-                           depth_greatest_at_ms=2600)
-
-    def test_copies_that_ask(self):
-        """Of two scalers the greatest number counts; from a moment on also what was there by then."""
-        log = HEADER + "5,q,x,scale,ok,,,1/4\n9,q,y,scale,ok,,,7/0\n20,q,x,scale,ok,,,4/2\n"
-        self.assert_values(self.queues(log)["q"], copies_changed=3, copies_greatest=7, requests=0)
-        self.assert_values(self.queues(FIFO)["f.fifo"], copies_changed=0, copies_greatest=None)
-        for first, told in (("0", "7 changed 3 times"), ("10", "4 changed 1 time")):
-            out = self.output("summary", self.write("log", f"{log}20,q,p,send,new,m-0-0,,x\n"), "--from", first)
-            self.assertEqual(re.findall("copies that ask, greatest +(.*)", out), [told])
-        self.assert_fault(self.run_tool("summary", self.write("bad", HEADER + "5,q,x,scale,ok,,,1-4\n")),
-                          f"summary: {self.path('bad')} line 2: 1-4 is no change of copies")
-
-    def test_backlog_gone_and_come_again(self):
-        rows = ["0,q,p,send,new,m-0-0,,x", "5,q,c,receive,ok,m-0-0,r-0-0-1,o-0-0",
-                "9,q,c,delete,deleted,m-0-0,r-0-0-1,9", "20,q,p,send,new,m-0-1,,x",
-                "25,q,c,receive,ok,m-0-1,r-0-1-1,o-0-1"]
-        # more than 0 wait from 0 to 5 ms, and from 20 to 25 ms
-        for length, gone, since, there in ((1, None, 0, 0), (2, 5, None, 0), (3, 5, None, None), (4, None, 20, 20),
-                                           (5, 25, None, 20)):
-            log = HEADER + "\n".join(rows[:length]) + "\n"
-            self.assert_values(self.queues(log, backlog=0)["q"], backlog_gone_at_ms=gone, backlog_since_ms=since,
-                               not_empty_since_ms=there)
-            told = f"{gone} ms" if since is None else f"never (over 0 wait since {since} ms)"
-            out = self.run_tool("summary", self.path("text0"), "--backlog", "0")[1]
-            self.assertEqual(re.findall("backlog gone at +(.*)", out), [told])
-
     def test_a_healthy_queue_has_no_backlog(self):
         """Twelve messages wait until eleven are received; from then on one waits, and one or two are in flight."""
         log = HEADER + "".join(f"{i},q,p,send,new,m-0-{i},,x\n" for i in range(12))
@@ -298,32 +220,6 @@ class Unread(SummaryCase):
 
 
 class SideBySide(SummaryCase):
-    def test_two_runs(self):
-        before, after = self.write("before", LOG + PARTS), self.write("after", FIFO)
-        out = self.output("summary", before, after)
-        end = open_end("", after).removeprefix(": ")
-        self.assertTrue(out.startswith(f"before, {before}: 25 rows, the last at 1 min 0 s\n!! LOST BY EXPIRY: 1 in d\n"
-                                       f"{end}after, {after}: 11 rows, the last at 3.60 s\n   it is not told which"))
-        sections = out.split("\n\n")
-        self.assertEqual([section.split()[0] for section in sections[1:]], ["a", "d", "f.fifo"])
-        self.assertIn("!! LOST BY EXPIRY                          1            -             -\n", sections[2])
-
-    def test_differences(self):
-        later = LOG.replace("2500,a,left,delete,kept,m-0-0,r-0-0-1,\n", "").replace(",2800\n", ",2750\n")
-        before, after = self.write("before", LOG), self.write("after", later)
-        _, out, _ = self.run_tool("summary", before, after, "--queue", "a")
-        for line in ("a                                     before        after    difference",
-                     "   handled once                            2            3            +1",
-                     "   handled more than once                  1            0            -1",
-                     "   tries a message, mean                1.67         1.67             0",
-                     "   age when deleted, greatest         2.80 s       2.75 s        -50 ms",
-                     "   greatest depth at                  200 ms       200 ms             0",
-                     "     DeleteMessage                         5            4            -1"):
-            self.assertIn(line + "\n", out)
-        document = json.loads(self.run_tool("summary", before, after, "--json")[1])
-        differences = {queue["queue"]: queue for queue in document["differences"]}
-        self.assert_values(differences["a"], handled_once=1, handled_more_than_once=-1, tries_mean=0.0, requests=-1,
-                           age_greatest_ms=-50, backlog_gone_at_ms=None, left_visible=None)
 
     def test_columns_align(self):
         """The texts of each column end below its title, also with a long name and great numbers."""
@@ -362,10 +258,6 @@ class Stream(SummaryCase):
             os.remove(self.path("pipe"))
             wanted = self.run_tool(words[0], "run.txt", *words[1:])
             self.assertEqual(ran, (0, wanted[1].replace("run.txt", "pipe"), ""))
-
-    def test_output_on_standard_input(self):
-        self.write("run.txt", LOG)
-        self.assertEqual(self.run_command("summary", "run.txt", "-", stdin=PARTS), (0, TEXT, ""))
 
     def test_messages_that_are_gone_are_forgotten(self):
         """A log in which one message at most is alive, and one service in ten fails."""
@@ -422,37 +314,6 @@ class Terminal(SummaryCase):
 class Figures(SummaryCase):
     """What of the log the program has to know to count it."""
 
-    def test_names_after_the_end(self):
-        """Rows are read to the end, also those that do not count: they name other queues, actors and tasks."""
-        rows = "20,d,boss,start,ok,,,task\n30,q,c,receive,ok,m-0-0,r-0-0-1,o-0-0\n35,q,c,forward,out,m-0-0,,e\n" \
-            "40,q,c,delete,deleted,m-0-0,r-0-0-1,40\n50,new,x,scale,ok,,,1/2\n"
-        log = self.write("log", HEADER + "0,q,p,send,new,m-0-0,,x\n" + rows)
-        queue, = json.loads(self.output("summary", log, "--json", "--to", "19"))["runs"][0]["queues"]
-        self.assert_values(queue, queue="q", sent=1, deleted=0, left=1, handled_once=0)
-        self.assertEqual(len(json.loads(self.output("summary", log, "--json"))["runs"][0]["queues"]), 4)
-
-    def test_numbers_of_queues(self):
-        """The receipts of a queue have its number, whatever the order of names; a queue without messages has none."""
-        log = self.write("log", HEADER + "0,a,c,receive,empty,,,\n0,q,p,send,new,m-3-0,,x\n5,q,c,receive,ok,m-3-0,r-3-0-1,o-3-0\n"
-                         "9,q,c,delete,deleted,m-3-0,r-3-0-1,9\n9,b,p,send,new,m-0-0,,x\n")
-        queues = {queue["queue"]: queue for queue in json.loads(self.output("summary", log, "--json"))["runs"][0]["queues"]}
-        self.assert_values(queues["q"], handled_once=1, received_messages=1, tries_greatest=1)
-        self.assertEqual(list(queues), ["b", "q", "a"])
-
-    def test_backlogs_before_the_beginning(self):
-        """They do not count, and one that is there by then does."""
-        log = self.write("log", HEADER + "0,q,p,send,new,m-0-0,,x\n5,q,c,receive,ok,m-0-0,r-0-0-1,o-0-0\n"
-                         "9,q,c,delete,deleted,m-0-0,r-0-0-1,9\n")
-        for first, gone in (("0", 5), ("5", 5), ("6", None)):
-            out = self.output("summary", log, "--json", "--backlog", "0", "--from", first)
-            self.assert_values(json.loads(out)["runs"][0]["queues"][0], backlog_gone_at_ms=gone, backlog_since_ms=None)
-
-    def test_rows_that_no_program_writes(self):
-        for row in ("1,q,p,send,new,m-0-1,,y", "1,q,p,send,new,m-0-01,,x", "01,q,p,send,new,m-0-1,,x",
-                    "1,q,p q,send,new,m-0-1,,x", "1,q,p,send,new,m-0-1,r-0-1-1,x"):
-            path = self.write("log", HEADER + f"0,q,p,send,new,m-0-0,,x\n{row}\n")
-            self.assert_fault(self.run_tool("summary", path), f"summary: {path} line 3 is no row of a log")
-
     def test_many_names(self):
         """As many as a run may have, and one more."""
         for number, told in ((10_000, ""), (10_001, "refused 19 TooMany at actor")):
@@ -460,38 +321,18 @@ class Figures(SummaryCase):
             status, _, err = self.run_tool("summary", path)
             self.assertEqual((status, err), (2, f"summary: {path}: {told}\n") if told else (0, ""))
 
-    def test_a_program_that_is_not_there(self):
-        path = self.write("run.txt", LOG + PARTS)
-        self.assert_fault(self.run_tool("summary", path, SQS_REHEARSE="none"), "summary: there is no program none")
-
-    def test_a_program_that_counts_less(self):
-        program = self.script("less", "#!/bin/sh\nif [ $# != 1 ]; then printf 'figure,of,name,value\\nfigure,q,sent,1\\n'; fi\n")
-        log = self.write("log", HEADER + "0,q,p,send,new,m-0-0,,x\n")
-        self.assert_fault(self.run_tool("summary", log, SQS_REHEARSE=program), "summary: the program counts no "
-                          "sent_again: it is of another version than this tool")
-
 
 class Faults(SummaryCase):
-    def assert_told(self, text, line, *words):
-        """A text, in a file of that name, is reported in one line."""
-        self.write("text", text)
-        self.assert_fault(self.run_tool("summary", "text", *words), f"summary: {line}")
-
-    def test_files(self):
-        first = f"its first line is not {HEADER.strip()}"
-        self.assert_told("", "text is empty: no run has written to it")
-        self.assert_told("a,b\n", f"text is no log: {first}")
-        self.assert_told(HEADER[:-9], f"text is no log: {first}")
-        self.assert_told(PARTS, "text has no log, and no log without its report stands before it")
-        self.assert_told(HEADER + "x" * 3_000_000, "text has a line of over 1,048,576 letters")
-        self.assert_fault(self.run_tool("summary", "none"), "summary: cannot read none: No such file or directory")
-        self.assert_fault(self.run_tool("summary", self.folder), f"summary: cannot read {self.folder}: Is a directory")
-        self.write("bytes", HEADER.encode() + b"0,a,shop,send,new,m-0-0,,\xff\xfe\n")
-        self.assert_fault(self.run_tool("summary", "bytes"), "summary: bytes is not UTF-8")
-
-    def test_words(self):
-        self.write("log", LOG)
-        self.assert_stored_faults("summary")
+    def test_texts_that_no_line_shows(self):
+        """Those that are long, and characters that a terminal obeys; sessions/summary.txt has the others."""
+        row = HEADER + "0,a,shop,send,new,m-0-0,,x\n"
+        for text, line in (
+                (HEADER + "x" * 3_000_000, "text has a line of over 1,048,576 letters"),
+                (f"{row}1,a,shop,send,new,m-{'9' * 5_000}-1,,x\n", f"text line 3: m-{'9' * 98} cannot come in"),
+                (f"{row}1,\033[2J,shop,send,new,m-0-1,,x\n", r"text line 3: '\x1b[2J' is no name of a queue"),
+                (HEADER.encode() + b"0,a,shop,send,new,m-0-0,,\xff\xfe\n", "text is not UTF-8")):
+            self.write("text", text)
+            self.assert_fault(self.run_tool("summary", "text"), f"summary: {line}")
 
     def test_cut(self):
         """No prefix of a whole output is reported, other than one that ends with a row of its log."""
@@ -505,36 +346,6 @@ class Faults(SummaryCase):
             except Fault:
                 passed = False
             self.assertEqual(passed, end in whole, text[:end][-60:])
-
-    def test_rows(self):
-        begin = HEADER + "0,a,shop,send,new,m-0-0,,x\n"
-        for row, reason in (
-                ("x,a,shop,send,new,m-0-1,,x", "text line 3 is no row of a log"),
-                ("-1,a,shop,send,new,m-0-1,,x", "text line 3 is no row of a log"),
-                ("\u0661,a,shop,send,new,m-0-1,,x", "text line 3 is no row of a log"),
-                ("99999999999999999999,a,shop,send,new,m-0-1,,x", "text line 3 is no row of a log"),
-                ("1,a,shop,send,new,m-0-1,x", "text line 3 is no row of a log"),
-                ("", "text line 3 is no row of a log"),
-                ('1,a,shop,send,new,m-0-1,"x', "text line 3 is no row of a log"),
-                ("1,a,shop,sing,new,m-0-1,,x", "text line 3 is no row of a log"),
-                ("1,a,shop,send,new,m-0-x,,x", "text line 3: m-0-x cannot come in"),
-                (f"1,a,shop,send,new,m-{'9' * 5_000}-1,,x", f"text line 3: m-{'9' * 98} cannot come in"),
-                ("1,a,shop,send,new,,,x", "text line 3: '' cannot come in"),
-                ("1,a,shop,send,new,m-0-0,,x", "text line 3: m-0-0 cannot come in"),
-                ("1,\033[2J,shop,send,new,m-0-1,,x", r"text line 3: '\x1b[2J' is no name of a queue"),
-                ("1,a,c,receive,ok,m-0-9,r-0-9-1,o-0-9",
-                 "text line 3: m-0-9 is not to be received in a: is this the whole log?"),
-                ("1,a,c,receive,ok,m-0-0,r-0-0-2,o-0-0",
-                 "text line 3: r-0-0-2 is not the next receipt of m-0-0: is this the whole log?"),
-                ("1,a,c,delete,deleted,m-0-0,r-0-0-1,x", "text line 3: x is no age"),
-                ("1,a,c,delete,deleted,m-0-1,r-0-1-1,1", "text line 3: m-0-1 is not in a: is this the whole log?"),
-                ("1,a,a,release,visible,m-0-1,,", "text line 3: m-0-1 is not in a: is this the whole log?"),
-                ("1,a,b,arrive,new,m-0-1,,o-1-0", "text line 3: nothing was on its way to a: is this the whole log?"),
-                ("1,a,a,redrive,out,m-0-0,,", "text line 3: '' is no name of a queue")):
-            with self.subTest(row=row):
-                self.assert_told(begin + row + "\n", reason)
-        self.assert_told(begin + "5,a,a,sample,ok,,,1/0/0\n4,a,a,sample,ok,,,1/0/0\n",
-                         "text line 4 is earlier than the row before it")
 
     def test_damaged_texts(self):
         """Letters and lines that are lost, doubled or exchanged make a fault, or another run that can be told."""
@@ -554,34 +365,6 @@ class Faults(SummaryCase):
                 self.assertTrue(str(fault).isprintable())
                 refused += 1
         self.assertGreater(refused, 200)
-
-    def test_reports(self):
-        text = LOG + PARTS
-        differs = "text: its report is not of this log, or rows are lost or doubled: {} by what follows"
-        for old, new, reason in (
-                ("report,a,3,", "report,a,4,", differs.format("sends of a is 3 by the rows, and 4")),
-                ("report,a,3,", "report,c,3,", differs.format("sends of c is 0 by the rows, and 3")),
-                (",2500,2800,2800", ",2501,2800,2800", differs.format("age_p50 of a is 2500 by the rows, and 2501")),
-                ("report,a,3,", "report,a,three,", "text: three is no number for sends in a report"),
-                ("report,a,3,", "report,a,,", "text: '' is no number for sends in a report"),
-                ("report,d,0,", "report,a,0,", "text: a is no name of a queue, or stands twice in the report"),
-                (PARTS.splitlines()[-1] + "\n", "", "text: the run did not end: its report lacks the queue d"),
-                ("task,name", "a,d,move,9,0,m-0-0,o-0-0,x\ntask,name",
-                 "text line 29 is no record of the part transfer after a log"),
-                ("task,name", "transfer,a,d,move,9,0,m-0-0,o-0-0,x\ntask,name",
-                 differs.format("transfers of d is 0 by the rows, and 1")),
-                ("task,name", "transfer,a,e,move,9,0,m-0-0,o-0-0,x\ntask,name",
-                 "text: the run did not end: its report lacks the queue e"),
-                ("report,d,0,", 'report,"d\n,0,', "text is not CSV: unexpected end of data")):
-            with self.subTest(new=new):
-                self.assertIn(old, text)
-                self.assert_told(text.replace(old, new), reason)
-
-    def test_files_of_two_runs(self):
-        self.write("parts", PARTS)
-        self.write("other", FIFO)
-        self.assert_fault(self.run_tool("summary", "other", "parts"), "summary: parts: its report is not of this log, "
-                          "or rows are lost or doubled: sends of a is 0 by the rows, and 3 by what follows")
 
 
 class Program(SummaryCase):

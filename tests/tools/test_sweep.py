@@ -1,4 +1,5 @@
-"""Tests tools/sweep with a stand-in for the program whose report is known, and with the program where it is at hand."""
+"""Tests tools/sweep with a stand-in for the program whose report is known, and with the program where it is at hand. What
+single commands print is in sessions/sweep.txt."""
 import csv
 import io
 import os
@@ -8,43 +9,15 @@ import signal
 import subprocess
 import sys
 
-from tool import (LIMIT, PROGRAM, REPORT_HEADER, ROOT, TOOLS, ToolCase, needs_program, ran, read_whole, text_at,
+from tool import (HERE, LIMIT, PROGRAM, REPORT_HEADER, ROOT, TOOLS, ToolCase, needs_program, ran, read_whole, text_at,
                   wait_for)
-from scenario_texts import consumer, producer, queue_of, scenario_of, table
-from rehearse_tools.console import toml_of
+from scenario_texts import consumer, producer, queue_of, scenario_of
 from rehearse_tools.variants import values_of
 
 COLUMNS = REPORT_HEADER.strip().removeprefix("report,queue,")
 SCENARIO = scenario_of(1_000, queue_of("q", visibility_s=1), queue_of("r"), seed=0)
-WORKER = table("actor", name="worker", kind="consumer", queue="q")
-# It starts quickly, as many runs are needed. It reports 100 sends for each second of visibility and one for each unit of
-# the seed, and refuses a visibility over 50.
-# A seed of 77 makes the file begun and takes an hour; with a worker the greatest age is the seed in seconds, and
-# without one it is not there.
-STAND_IN = f"""#!/bin/sh
-[ "$*" = --help ] && exit 0
-[ "$1 $2 $4 $5 $#" = "run --scripts --log /dev/null 5" ] || exit 9
-workers=
-while read -r key equals value; do
-  case $key in
-    seed) seed=$value;;
-    visibility_s) visibility=$value;;
-    name) case $value in '"worker'*) workers=yes;; esac;;
-  esac
-done
-if [ "$seed" = 77 ]; then
-  : > begun
-  exec sleep 3600
-fi
-if [ "$visibility" -gt 50 ]; then
-  echo "refused 14 OutOfRange at queue[0].visibility_s" >&2
-  exit 1
-fi
-echo "final,queue,message,origin,place,due,enqueued,receives,group,md5"
-echo "report,queue,{COLUMNS}"
-echo "report,q,$((100 * visibility + seed)),{"0," * 21}$seed,$seed,,,${{workers:+$((1000 * seed))}}"
-echo "report,r,{"0," * 22}0,,,,"
-"""
+# The stand-in makes the file begun and takes an hour with a seed of 77; sessions/sweep.txt says what else it does.
+STAND_IN = text_at(HERE, "stand-ins", "sweep")
 
 
 class Sweep(ToolCase):
@@ -56,51 +29,6 @@ class Sweep(ToolCase):
     def records(self, text):
         records = list(csv.reader(io.StringIO(text)))
         return records[0], records[1:]
-
-    def test_a_row_for_each_variant_and_queue(self):
-        status, out, err = self.sweep(self.scenario, "--vary", "queue.q.visibility_s=2,5", "--vary", "seed=1..3")
-        header, rows = self.records(out)
-        self.assertEqual((status, err.splitlines()[-1]), (0, "sweep: 6 of 6 variants run, 0 failed"))
-        self.assertEqual(header, ["queue.q.visibility_s", "seed", "failed", "queue", *COLUMNS.split(",")])
-        self.assertEqual([row[:5] for row in rows if row[3] == "q"],
-                         [[v, s, "", "q", f"{v}0{s}"] for v in "25" for s in "123"])
-        self.assertEqual([row[:5] for row in rows if row[3] == "r"],
-                         [[v, s, "", "r", "0"] for v in "25" for s in "123"])
-
-    def test_a_run_that_is_given_twice(self):
-        """With --spread it would count as another, independent one, however its value is spelled."""
-        for words, told in ((["--vary", "seed=3,4,3"], "seed=3"), (["--vary", "seed=3,03"], "seed=03"),
-                            (["--vary", "seed=3,+3"], "seed=+3"),
-                            (["--vary", "queue.q.visibility_s=5,5", "--vary", "seed=1,2"], "queue.q.visibility_s=5"),
-                            (["--vary", "seed=1,2,1", "--zip", "actor.a.script=a,b,a"], "seed=1 actor.a.script=a")):
-            with self.subTest(words=words):
-                self.write("s.toml", SCENARIO + '[[actor]]\nname = "a"\n')
-                self.assert_fault(self.sweep(self.scenario, *words, "--spread", "seed"), f"sweep: {told} is given "
-                                  "twice, and --spread counts each run as an independent one")
-        status, out, _ = self.sweep(self.scenario, "--vary", "seed=3,3", "--columns", "sends")
-        self.assertEqual((status, len(out.splitlines())), (0, 5))
-        _, err = self.ends(0, self.sweep(self.scenario, "--vary", "seed=1,1", "--zip", "actor.a.script=a,b", "--spread",
-                                         "seed"))
-
-    def test_a_variant_that_is_refused(self):
-        status, out, _ = self.sweep(self.scenario, "--vary", "queue.q.visibility_s=51,2")
-        header, rows = self.records(out)
-        self.assertEqual(status, 1)
-        self.assertEqual(rows[0], ["51", "refused 14 OutOfRange at queue[0].visibility_s", *[""] * (len(header) - 2)])
-        self.assertEqual([row[:3] for row in rows[1:]], [["2", "", "q"], ["2", "", "r"]])
-
-    def test_spread(self):
-        status, out, _ = self.sweep(self.scenario, "--vary", "seed=1,2,6", "--vary", "queue.q.visibility_s=2,51",
-                                    "--spread", "seed")
-        header, rows = self.records(out)
-        self.assertEqual(status, 1)
-        self.assertEqual(header[:9], ["queue.q.visibility_s", "failed", "queue", "runs", "sends_mean",
-                                      "sends_deviation", "sends_least", "sends_median", "sends_greatest"])
-        # The numbers 201, 202 and 206 have the mean 203 and a sum of squared deviations of 4 + 1 + 9 = 14.
-        self.assertEqual(rows[0][:9], ["2", "", "q", "3", "203", "2.646", "201", "202", "206"])
-        ages = header.index("age_p50_mean")
-        self.assertEqual(rows[0][ages:ages + 5], ["", "", "", "", ""])
-        self.assertEqual(rows[2][:5], ["51", "refused 14 OutOfRange at queue[0].visibility_s", "", "3", ""])
 
     def test_jobs_name_the_command(self):
         """By the path by which it was called; or that in tools/, which runs from any folder."""
@@ -130,16 +58,6 @@ class Sweep(ToolCase):
         self.assertEqual([row[:2] for row in self.records(out)[1]], [["2", "7"], ["2", "7"], ["2", "8"], ["2", "8"],
                                                                      ["51", "8"]])
 
-    def test_the_scenario_of_one_variant(self):
-        words = "--vary", "queue.q.visibility_s=7", "--vary", "seed=3", "--print-scenario"
-        out = self.output("sweep", self.scenario, *words, SQS_REHEARSE="/none")
-        wanted = SCENARIO.replace("visibility_s = 1", "visibility_s = 7").replace("seed = 0", "seed = 3")
-        self.assertEqual(toml_of(out), toml_of(wanted))
-        self.assert_fault(self.sweep(self.scenario, "--vary", "seed=1..20", "--print-scenario"),
-                          "sweep: --print-scenario prints one variant, and these are 20")
-        self.assert_fault(self.sweep(self.scenario, "--vary", "seed=1", "--print-scenario", "--spread", "seed"),
-                          "sweep: --require and --spread go with runs, and nothing is run")
-
     def test_version_3_is_asked_for(self):
         """Without --v3 nothing is run. With it, or its former name, the program gets the name that older ones know, too. The
         commands of jobs have --v3."""
@@ -164,19 +82,6 @@ class Sweep(ToolCase):
                              ("7..7", "7"), ("5,1..2,9", "5 1 2 9")):
             self.assertEqual(values_of(text), values.split(), text)
 
-    def test_values_that_are_lists(self):
-        words = self.scenario, "--vary", "queue.q.x=[5, 30],[[0, 1], [9, 2]],[],\"[a]\",[b]", "--vary", "seed=1"
-        runs = [self.sweep(*words[:2], f"queue.q.x={word}", "--print-scenario") for word in
-                ("[5, 30]", "[[0, 1], [9, 2]]", "[]", '"[a]"', "[b]")]
-        self.assertEqual([toml_of(out)["queue"][0]["x"] for _, out, _ in runs],
-                         [[5, 30], [[0, 1], [9, 2]], [], "[a]", "[b]"])
-        self.assertEqual(self.sweep(*words)[2].splitlines()[-1], "sweep: 5 of 5 variants run, 0 failed")
-
-    def test_a_scenario_as_it_is(self):
-        """With columns alone it is run once; the visibility of a second reports 100 sends."""
-        self.assertEqual(self.sweep(self.scenario, "--columns", "sends"), (
-            0, "failed,queue,sends\n,q,100\n,r,0\n", "sweep: 1 of 1 variants run, 0 failed\n"))
-
     def test_faults(self):
         known = (f"{COLUMNS},door_age_p50,door_age_p95,door_age_max,requests,cost,backlog_gone,new_age_p50,new_age_p95,"
                  "new_age_max,moved_age_p50,moved_age_p95,moved_age_max,window_age_p95,"
@@ -191,43 +96,6 @@ class Sweep(ToolCase):
             self.write("bad.toml", data)
             self.refusal(self.sweep("bad.toml", "--vary", "seed=1"))
 
-    def test_requirements(self):
-        words = self.scenario, "--vary", "queue.q.visibility_s=2,51", "--vary", "seed=1,3"
-        status, _, err = self.sweep(*words, "--require", "q.sends<203", "--require", "*.expiries=0")
-        told = [line for line in err.splitlines() if "variants run" not in line]
-        self.assertEqual((status, told), (1, [
-            "sweep: q.sends<203 fails with queue.q.visibility_s=2 seed=3: it is 203",
-            "sweep: nothing is known of queue.q.visibility_s=51 seed=1: refused 14 OutOfRange at queue[0].visibility_s",
-            "sweep: nothing is known of queue.q.visibility_s=51 seed=3: refused 14 OutOfRange at queue[0].visibility_s",
-            "sweep: requirements that hold: 5 of 6",
-            "sweep: variants that meet all of them: 1 of 4: queue.q.visibility_s=2 seed=1"]))
-
-    def test_variants_that_meet_all_requirements(self):
-        """With a timeout of 2 the sends are 201 and 203, with 3 they are 301 and 303; nothing is known of 51."""
-        words = self.scenario, "--vary", "queue.q.visibility_s=2,3,51", "--vary", "seed=1,3", "--spread", "seed"
-        for text, line in (("q.sends<204", "1 of 3: queue.q.visibility_s=2"), ("q.sends<203", "0 of 3"),
-                           ("q.sends<400", "2 of 3: queue.q.visibility_s=2; queue.q.visibility_s=3")):
-            err = self.sweep(*words, "--require", text)[2]
-            self.assertEqual(err.splitlines()[-1:], [f"sweep: variants that meet all of them: {line}"])
-        err = self.sweep(self.scenario, "--vary", "seed=1..12", "--require", "q.sends!=105")[2]
-        met = "; ".join(f"seed={seed}" for seed in (1, 2, 3, 4, 6, 7, 8, 9))
-        self.assertEqual(err.splitlines()[-1], f"sweep: variants that meet all of them: 11 of 12: {met}; ..")
-        err = self.sweep(self.scenario, "--vary", "seed=1..2", "--require", "q.sends<200")[2]
-        self.assertEqual(err.splitlines()[-1], "sweep: requirements that hold: 2 of 2")
-
-    def test_requirements_of_ages(self):
-        """The greatest age is 5 s with a worker; without one no message is deleted, and nothing holds of ages."""
-        scenario = self.write("worker.toml", SCENARIO.replace("seed = 0", "seed = 5") + WORKER)
-        for text, status in (("q.age_p99<=5s", 0), ("q.age_p99 < 5001 ms", 0), ("q.age_p99<5000", 1),
-                             ("q.age_p99=5000", 0), ("q.age_p99!=0.0833m", 0), ("q.age_p99>1h", 1),
-                             ("q.age_p50<1d", 1)):
-            with self.subTest(text=text):
-                self.assertEqual(self.sweep(scenario, "--require", text)[0], status)
-        _, _, err = self.sweep(scenario, "--require", "q.age_p99<5s")
-        self.assertIn("sweep: q.age_p99<5s fails with the scenario as it is: it is 5000 ms, 5.00 s\n", err)
-        _, _, err = self.sweep(self.scenario, "--require", "q.age_p99<5s")
-        self.assertIn("sweep: q.age_p99<5s fails with the scenario as it is: no message was deleted\n", err)
-
     def test_requirements_of_collected_rows(self):
         _, jobs, _ = self.sweep(self.scenario, "--vary", "seed=1..2", "--print-jobs", "jobs")
         for job in jobs.splitlines():
@@ -238,25 +106,6 @@ class Sweep(ToolCase):
                                          "sweep: requirements that hold: 1 of 2\n"))
         status, _, err = self.sweep("--collect", "jobs", "--require", "q.sends=101")
         self.assertEqual((status, err.splitlines()[-1]), (1, "sweep: variants that meet all of them: 1 of 2: seed=1"))
-
-    def test_columns_and_a_table(self):
-        words = self.scenario, "--vary", "seed=1,10", "--columns", "age_sum,sends,age_p50"
-        self.assertEqual(self.sweep(*words)[1], "seed,failed,queue,age_sum,sends,age_p50\n1,,q,1,101,\n1,,r,0,0,\n"
-                         "10,,q,10,110,\n10,,r,0,0,\n")
-        self.assertEqual(self.sweep(*words, "--table")[1], "seed  queue  age_sum  sends\n   1  q            1    101\n"
-                         "   1  r            0      0\n  10  q           10    110\n  10  r            0      0\n")
-        ages = self.sweep(*words[:3], "--columns", "age_p95", "--table")[1]
-        self.assertEqual(ages, "", "no message was deleted, so that no row has an age")
-        self.assertEqual(self.sweep(*words, "--table", "--spread", "seed")[1], """\
-             age_sum                                               sends
-queue  runs  mean  deviation  least  median  greatest  half_width   mean  deviation  least  median  greatest  half_width
-q         2   5.5      6.364      1     5.5        10      57.178  105.5      6.364    101   105.5       110      57.178
-r         2     0          0      0       0         0           0      0          0      0       0         0           0
-""")
-        self.assertEqual(self.sweep(*words, "--spread", "seed", "--output", "rows.csv")[0], 0)
-        header, rows = self.records(text_at(self.path("rows.csv")))
-        self.assertEqual((header[:5], rows[0][:5]), (["failed", "queue", "runs", "age_sum_mean", "age_sum_deviation"],
-                                                     ["", "q", "2", "5.5", "6.364"]))
 
     def test_rows_so_far_are_kept_on_an_interrupt(self):
         """It comes when the first variant has been told, and the second one, of seed 77, runs."""
@@ -285,22 +134,6 @@ r         2     0          0      0       0         0           0      0        
         self.assertEqual((run.returncode, len(out.splitlines())), (0, 7))
         self.assertRegex(told, rb"^(\r(sweep: [12] of 3 variants run, 0 failed)?\x1b\[K)+sweep: 3 of 3 variants run, "
                                rb"0 failed\r\n$")
-
-    def test_faults_of_the_scenario_come_before_those_of_the_program(self):
-        self.assert_fault(self.sweep("none", "--vary", "seed=1", "--program", "/nowhere"),
-                          "sweep: cannot read none: No such file or directory")
-
-    def test_files_of_jobs_that_are_none(self):
-        folder = self.path("jobs")
-        os.mkdir(folder)
-        header = "seed,failed,queue," + COLUMNS
-        for name, text, line in (("1-of-1.csv", header, "is no name of a sweep's result, as 03-of-50-3fa9c2d1.csv"),
-                                 ("1-of-1-3fa9c2d1.csv", "", "is empty"),
-                                 ("1-of-1-3fa9c2d1.csv", header + "\n1,,q,2\n", "is no result of a sweep")):
-            self.write(f"jobs/{name}", text)
-            self.assert_fault(self.sweep("--collect", folder),
-                              f"sweep: {folder} has no whole result of a sweep: {name} {line}")
-            os.remove(self.path(f"jobs/{name}"))
 
     @needs_program
     def test_copies_with_the_program(self):

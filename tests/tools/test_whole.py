@@ -1,9 +1,10 @@
 """Tests that no tool takes a log that is not whole for a whole one: of runs that were ended, and of damaged logs."""
+import itertools
 import json
 import re
 import subprocess
 
-from tool import HEADER, MD5, PROGRAM, ToolCase, ended, needs_program, open_end, ran
+from tool import HEADER, LOG_HEADER, MD5, PROGRAM, SENT, ToolCase, ended, needs_program, open_end, ran
 from scenario_texts import producer, queue_of, scenario_of
 
 # Two messages come into q, of which one is deleted and the other one is left; a poll of p is empty.
@@ -24,6 +25,20 @@ MORE_WORDS = {**WORDS, "life": ("--worst",), "metrics": ("--to", "1s", "--alarm"
 CALLS = [*WORDS.items(), *MORE_WORDS.items()]
 # summary compares more than the other tools, so its report needs the greatest depths and the ages as well.
 DEPTHS = {"q": ("2,1,0,0,20,20,20,20,20", "0,1,0,0,0,,,,"), "p": ("0,0,0,0,0,,,,", "0,0,0,0,0,,,,")}
+# Ways to read a log that is none.
+HOSTILE_CALLS = (*CALLS, ("life", ("o-0-0",)), ("life", ("m-9-9",)), ("metrics", ()), ("summary", ("--door",)))
+# Files that are no logs, by what is wrong with them.
+HOSTILE_LOGS = {
+    "empty": b"", "binary": bytes(range(256)) * 9, "no line end": LOG_HEADER + SENT + b"5,q,shop",
+    "JSON": b'{"Attributes": {}}\n', "UTF-16": "at,queue\n".encode("utf-16"), "a picture": b"\x89PNG\r\n\x1a\n\0\0\0",
+    "huge time": LOG_HEADER + SENT + b"9" * 5_000 + b",q,shop,send,new,m-0-1,,x\n",
+    "no column detail": LOG_HEADER.replace(b",detail", b"") + b"0,q,shop,send,new,m-0-0,\n",
+    "a row without its last column": LOG_HEADER + b"0,q,shop,send,new,m-0-0,\n",
+    "a huge id": LOG_HEADER + b"0,q,shop,send,new,m-0-" + b"9" * 50 + b",,x\n",
+    "no number for an age": LOG_HEADER + SENT + b"1,q,shop,delete,deleted,m-0-0,r-0-0-1,old\n",
+    "backward": LOG_HEADER + SENT.replace(b"0,q", b"9,q", 1) + SENT,
+    "a line without end": LOG_HEADER + b"0" * 3_000_000,
+}
 
 
 def for_summary(text):
@@ -48,6 +63,15 @@ class Damaged(ToolCase):
                 with self.subTest(name=name, words=words, by_pipe=by_pipe):
                     path = "standard input" if by_pipe else self.path("run.txt")
                     self.assert_fault(self.told(name, words, text, by_pipe), f"{name}: {path}: {line}")
+
+    def test_texts_that_are_no_logs(self):
+        """The tool tells one line on standard error, and nothing else."""
+        for case, data in HOSTILE_LOGS.items():
+            self.write("hostile", data)
+            for (name, words), log in itertools.product(HOSTILE_CALLS, ("hostile", "-")):
+                with self.subTest(case=case, name=name, words=words, log=log):
+                    err = self.refusal(self.run_tool(name, log, *words, stdin=data))
+                    self.assertTrue(err.startswith(f"{name}: "), err)
 
     def test_whole(self):
         for name, words in CALLS:

@@ -95,18 +95,6 @@ HEADER = "at,queue,agent,call,answer,message,receipt,detail\n"
 LOG_HEADER = HEADER.encode()
 MD5 = "900150983cd24fb0d6963f7d28e17f72"
 SENT = f"0,q,shop,send,new,m-0-0,,{MD5}\n".encode()
-# Files that are no logs, by what is wrong with them.
-HOSTILE_LOGS = {
-    "empty": b"", "binary": bytes(range(256)) * 9, "no line end": LOG_HEADER + SENT + b"5,q,shop",
-    "JSON": b'{"Attributes": {}}\n', "UTF-16": "at,queue\n".encode("utf-16"), "a picture": b"\x89PNG\r\n\x1a\n\0\0\0",
-    "huge time": LOG_HEADER + SENT + b"9" * 5_000 + b",q,shop,send,new,m-0-1,,x\n",
-    "no column detail": LOG_HEADER.replace(b",detail", b"") + b"0,q,shop,send,new,m-0-0,\n",
-    "a row without its last column": LOG_HEADER + b"0,q,shop,send,new,m-0-0,\n",
-    "a huge id": LOG_HEADER + b"0,q,shop,send,new,m-0-" + b"9" * 50 + b",,x\n",
-    "no number for an age": LOG_HEADER + SENT + b"1,q,shop,delete,deleted,m-0-0,r-0-0-1,old\n",
-    "backward": LOG_HEADER + SENT.replace(b"0,q", b"9,q", 1) + SENT,
-    "a line without end": LOG_HEADER + b"0" * 3_000_000,
-}
 
 
 def wait_for(is_so):
@@ -270,15 +258,6 @@ class ToolCase(unittest.TestCase):
         status, out, err = self.run_tool(name, *words, **more)
         self.assertEqual((status, err), (0, ""))
         return out
-
-    def assert_hostile_logs(self, name, *words):
-        """The tool tells one line on standard error of each file that is no log, and nothing else."""
-        for case, data in HOSTILE_LOGS.items():
-            self.write("hostile", data)
-            for log in ("hostile", "-"):
-                with self.subTest(case=case, log=log):
-                    err = self.refusal(self.run_tool(name, log, *words, stdin=data))
-                    self.assertTrue(err.startswith(f"{name}: "), err)
 
     def ends(self, status, ran):
         """The standard output and standard error of a run that ends with a status."""
