@@ -51,12 +51,12 @@ WITHOUT_PROGRAM = ("texts", "style", "house", "types", "examples", "layers", "wr
 # Seconds of the longest parts, as measured. They begin first, so that no long one is left at the end.
 SECONDS = {"wrong-bodies": 90, "page": 70, "memory": 60, "questions": 50, "test_clusters": 50, "long": 40,
            "test_picture": 32, "test_slurm": 25, "late": 20, "test_statistics": 20, "test_helps": 17,
-           "test_package": 16, "test_console": 15, "underway": 15, "test_all": 14, "huge": 13, "test_shown": 12,
-           "groups": 10, "reach": 20, "test_poison": 10, "test_invocations": 10, "test_summary": 10, "fuzz": 9,
-           "test_decisions": 9, "test_from_plan": 9,
-           "run": 8, "test_build": 8, "test_reference": 8, "test_runs": 8, "test_sweeps": 8, "terminal": 10, "bell": 9,
-           "types": 7, "test_older": 30, "test_programs": 30, "test_ends": 8, "test_curves": 7, "test_report": 6,
-           "test_settling": 6, "test_sweep": 5, "test_types": 5, "test_quantiles": 8, "test_arrivals": 4, "test_doors": 4}
+           "test_package": 16, "test_console": 15, "underway": 15, "test_sessions": 14, "test_all": 14, "huge": 13,
+           "test_shown": 12, "groups": 10, "reach": 20, "test_poison": 10, "test_invocations": 10, "test_summary": 10,
+           "fuzz": 9, "test_decisions": 9, "test_from_plan": 9, "run": 8, "test_build": 8, "test_reference": 8,
+           "test_runs": 8, "test_sweeps": 8, "terminal": 10, "bell": 9, "types": 7, "test_older": 30,
+           "test_programs": 30, "test_ends": 8, "test_curves": 7, "test_report": 6, "test_settling": 6,
+           "test_sweep": 5, "test_types": 5, "test_quantiles": 8, "test_arrivals": 4, "test_doors": 4}
 NOT_QUICK = ("wrong-bodies", "long", "test_clusters", "test_slurm", "test_picture", "memory", "late", "huge",
              "test_console", "test_package", "test_poison", "test_invocations", "test_statistics", "test_decisions",
              "test_helps", "test_shown", "test_older", "page")
