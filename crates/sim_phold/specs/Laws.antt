@@ -1,43 +1,19 @@
 -- The laws of every site, of processes of PHOLD.
-use Rattle.std.specs.Prelude.{All, List, [], ℕ, ◌+◌, ◌<◌, ◌≡◌, ◌≤◌}
+use Rattle.std.specs.Prelude.{All, List, [], ◌+◌, ◌<◌, ◌≤◌}
 use Rattle.std.proofs.Common.{ap, arith, refl}
 use Rattle.std.proofs.lemmas.List.Elements.{All-cons, All-nil}
 use Rattle.rand_pcg.specs.Pcg.{pcg32}
 use Rattle.sim_clock.specs.declared.key.Key.{Key}
-use Rattle.sim_clock.specs.Firsts.{without}
-use Rattle.sim_clock.specs.Order.{inserted, key_cmp_total, same_key}
+use Rattle.sim_clock.specs.Order.{key_cmp_total, same_key}
 use Rattle.sim_clock.proofs.Inserted.{inserted_swap, ordered_inserted, ordered_without, without_inserted}
 use Rattle.sim_engine.specs.Engine.{Handled}
 use Rattle.sim_engine.specs.Laws.{SiteLaws}
-use Rattle.sim_engine.specs.Members.{In, count_due}
-use Rattle.sim_engine.proofs.Counts.{count_is, tick, tick_now, tick_past}
-use Rattle.sim_ring.specs.Keys.{due_inserted, inserted_in, total_inserted, total_without}
+use Rattle.sim_engine.proofs.Counts.{tick_now}
+use Rattle.sim_ring.specs.Keys.{due_inserted, fewer_due, inserted_in, no_more_due}
 use Rattle.sim_phold.specs.declared.process.Event.{Event}
 use Rattle.sim_phold.specs.declared.process.Handling.{Handling}
 use Rattle.sim_phold.specs.declared.process.Process.{Process}
 use Rattle.sim_phold.specs.Phold.{handled_event, phold, phold_conditions, sent_on}
-
--- what is on its way to a process after the handling of a key
-abbrev left : Key → Process → List Key
-left key p = without (same_key key) p.arriving
-
--- a moment's part in how many keys are due by it
-abbrev by : ℕ → Key → ℕ
-by e k = tick e k.at
-
--- a handling leaves the handled key's part less due
-fewer :
-    (e : ℕ) (key : Key) (p : Process) → In p.arriving key
-    → count_due e (left key p) + tick e key.at ≡ count_due e p.arriving
-fewer e key p i = omega (arith, count_is e p.arriving, count_is e (left key p), total_without (by e) key p.arriving i)
-
--- an event that arrives later makes no more due
-more :
-    (e : ℕ) (o : Event) (p : Process) → e < o.key.at
-    → count_due e (inserted o.key p.arriving) ≤ count_due e p.arriving
-more e o p l =
-    let t = total_inserted (by e) o.key p.arriving in
-    omega (arith, count_is e p.arriving, count_is e (inserted o.key p.arriving), t, tick_past e o.key.at l)
 
 -- a handling sends one event: what holds of that holds of all
 sent_alone : (P : Event → Type 0) (key : Key) (p : Process) → ((o : Event) → key.at + p.lookahead ≤ o.key.at → P o) → All P (handled_event key p).sent
@@ -64,13 +40,13 @@ phold_laws =
           ap (handled_leaving key s) (without_inserted key_cmp_total (same_key key) o.key s.arriving n w);
       due_accepted = λ o s. due_inserted o.key s.arriving;
       in_accepted = λ o s j h. inserted_in o.key s.arriving j h;
-      count_accepted = λ e o s l. more e o s l;
+      count_accepted = λ e o s l. no_more_due e o.key s.arriving l;
       kept_core = λ o s. refl;
       moving = λ key s h i.
           record {
             sound = h;
-            before = λ e l. omega (arith, fewer e key s i);
-            falls = omega (arith, fewer key.at key s i, tick_now key.at key.at (omega arith));
+            before = λ e l. omega (arith, fewer_due e key s.arriving i);
+            falls = omega (arith, fewer_due key.at key s.arriving i, tick_now key.at key.at (omega arith));
             sent_later = sent_alone (λ o. key.at < o.key.at) key s (λ o l. omega (arith, h, l));
           };
       sound_accepted = λ o s h. h;

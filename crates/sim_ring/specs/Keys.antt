@@ -1,14 +1,14 @@
 -- Keys in their order, with one more or one less: which they are, how many are due by a moment, and which is the least.
 use Rattle.std.specs.Ordering.{is_lt}
-use Rattle.std.specs.Prelude.{List, Some, [], false, if◌then◌else◌, true, ℕ, ◌+◌, ◌∷◌, ◌≡◌, ◌⊎◌}
+use Rattle.std.specs.Prelude.{List, Some, [], false, if◌then◌else◌, true, ℕ, ◌+◌, ◌<◌, ◌∷◌, ◌≡◌, ◌≤◌, ◌⊎◌}
 use Rattle.std.proofs.Common.{ap, arith, inl, inr, refl, ◌∙◌}
 use Rattle.sim_clock.specs.declared.key.Key.{Key}
 use Rattle.sim_clock.specs.Firsts.{without}
 use Rattle.sim_clock.specs.Order.{inserted, key_cmp, key_cmp_total, least, lesser, same_key}
 use Rattle.sim_clock.proofs.Least.{key_tied, lesser_swap}
 use Rattle.sim_clock.proofs.Orderings.{key_self}
-use Rattle.sim_engine.specs.Members.{In}
-use Rattle.sim_engine.proofs.Counts.{total}
+use Rattle.sim_engine.specs.Members.{In, count_due}
+use Rattle.sim_engine.proofs.Counts.{count_is, tick, tick_past, total}
 
 -- keys with one more
 pub total_inserted : (f : Key → ℕ) (x : Key) (xs : List Key) → total f (inserted x xs) ≡ f x + total f xs
@@ -60,3 +60,20 @@ without_in key (x ∷ xs) y h =
       | true ↦ λ i. inr i
       | false ↦ λ i. elim i as (λ _. In (x ∷ xs) y) [ inl e ↦ inl e | inr k ↦ inr (without_in key xs y k) ]
     ] h
+
+-- a moment's part in how many keys are due by it
+abbrev by : ℕ → Key → ℕ
+by e k = tick e k.at
+
+-- without one of them its part less is due
+pub fewer_due :
+    (e : ℕ) (key : Key) (keys : List Key) → In keys key
+    → count_due e (without (same_key key) keys) + tick e key.at ≡ count_due e keys
+fewer_due e key keys i =
+    omega (arith, count_is e keys, count_is e (without (same_key key) keys), total_without (by e) key keys i)
+
+-- one more that is later makes no more due
+pub no_more_due :
+    (e : ℕ) (key : Key) (keys : List Key) → e < key.at → count_due e (inserted key keys) ≤ count_due e keys
+no_more_due e key keys l =
+    omega (arith, count_is e keys, count_is e (inserted key keys), total_inserted (by e) key keys, tick_past e key.at l)

@@ -1,42 +1,18 @@
 -- The laws of every site, of counters.
-use Rattle.std.specs.Prelude.{All, List, [], ℕ, ◌+◌, ◌<◌, ◌≡◌, ◌≤◌}
+use Rattle.std.specs.Prelude.{All, List, [], ◌+◌, ◌<◌, ◌≤◌}
 use Rattle.std.proofs.Common.{ap, arith, refl}
 use Rattle.std.proofs.lemmas.List.Elements.{All-cons, All-nil}
 use Rattle.sim_clock.specs.declared.key.Key.{Key}
-use Rattle.sim_clock.specs.Firsts.{without}
-use Rattle.sim_clock.specs.Order.{inserted, key_cmp_total, same_key}
+use Rattle.sim_clock.specs.Order.{key_cmp_total, same_key}
 use Rattle.sim_clock.proofs.Inserted.{inserted_swap, ordered_inserted, ordered_without, without_inserted}
 use Rattle.sim_engine.specs.Engine.{Handled}
 use Rattle.sim_engine.specs.Laws.{SiteLaws}
-use Rattle.sim_engine.specs.Members.{In, count_due}
-use Rattle.sim_engine.proofs.Counts.{count_is, tick, tick_now, tick_past}
+use Rattle.sim_engine.proofs.Counts.{tick_now}
 use Rattle.sim_ring.specs.declared.counter.Counter.{Counter}
 use Rattle.sim_ring.specs.declared.counter.Told.{Told}
 use Rattle.sim_ring.specs.declared.counter.Token.{Token}
-use Rattle.sim_ring.specs.Keys.{due_inserted, inserted_in, total_inserted, total_without}
+use Rattle.sim_ring.specs.Keys.{due_inserted, fewer_due, inserted_in, no_more_due}
 use Rattle.sim_ring.specs.Ring.{counted, handed_on, ring, ring_conditions}
-
--- what is on its way to a counter after the handling of a key
-abbrev left : Key → Counter → List Key
-left key c = without (same_key key) c.arriving
-
--- a moment's part in how many keys are due by it
-abbrev by : ℕ → Key → ℕ
-by e k = tick e k.at
-
--- a handling leaves the handled key's part less due
-fewer :
-    (e : ℕ) (key : Key) (c : Counter) → In c.arriving key
-    → count_due e (left key c) + tick e key.at ≡ count_due e c.arriving
-fewer e key c i = omega (arith, count_is e c.arriving, count_is e (left key c), total_without (by e) key c.arriving i)
-
--- a token that arrives later makes no more due
-more :
-    (e : ℕ) (o : Token) (c : Counter) → e < o.key.at
-    → count_due e (inserted o.key c.arriving) ≤ count_due e c.arriving
-more e o c l =
-    let t = total_inserted (by e) o.key c.arriving in
-    omega (arith, count_is e c.arriving, count_is e (inserted o.key c.arriving), t, tick_past e o.key.at l)
 
 -- what is handed on arrives later, and holds nothing from after that
 later : (key : Key) (c : Counter) → 1 ≤ c.way → All (λ (o : Token). key.at < o.key.at) (counted key c).sent
@@ -63,13 +39,13 @@ ring_laws =
           ap (counted_leaving key s) (without_inserted key_cmp_total (same_key key) o.key s.arriving n w);
       due_accepted = λ o s. due_inserted o.key s.arriving;
       in_accepted = λ o s j h. inserted_in o.key s.arriving j h;
-      count_accepted = λ e o s l. more e o s l;
+      count_accepted = λ e o s l. no_more_due e o.key s.arriving l;
       kept_core = λ o s. refl;
       moving = λ key s h i.
           record {
             sound = h;
-            before = λ e l. omega (arith, fewer e key s i);
-            falls = omega (arith, fewer key.at key s i, tick_now key.at key.at (omega arith));
+            before = λ e l. omega (arith, fewer_due e key s.arriving i);
+            falls = omega (arith, fewer_due key.at key s.arriving i, tick_now key.at key.at (omega arith));
             sent_later = later key s h;
           };
       sound_accepted = λ o s h. h;
