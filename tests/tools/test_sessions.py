@@ -56,6 +56,10 @@ def sessions_in(path):
             steps.append(Step(match[1], shlex.split(match[2]), {mark: [] for mark in "|!=?\\"}, []))
         elif match:
             steps[-1].say(match[1], match[2] or "")
+        else:
+            assert not line or len(steps) == (0 if steps is shared else len(shared)), f"{path}: no mark: {line}"
+    for title, steps in found.items():
+        assert any(step.mark == "$" for step in steps), f"{path}: no command: {title}"
     return found
 
 
