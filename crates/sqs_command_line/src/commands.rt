@@ -17,7 +17,7 @@ const V3_HELP: &str = "Read version 3 of scenarios, too";
 const REACH_HELP: &str = "Say behind the comparison which queues cannot differ";
 
 /// The help of the scenario.
-const SCENARIO_HELP: &str = "The scenario's file [default: standard input]";
+const SCENARIO_HELP: &str = "The scenario's file, or - [default: standard input]";
 
 /// The text below the help of `run`.
 const RUN_HELP: &str =
@@ -184,7 +184,7 @@ fn run_files<'a>(alloc: Global) -> Result<Command<'a>, AllocError>
     let command = command.arg(option(
         alloc,
         "log",
-        "Write the log to this file [default: standard output]",
+        "Write the log to this file, or - [default: standard output]",
     ))?;
     let command = command.arg(option(alloc, "scripts", SCRIPTS_HELP))?;
     Ok(command)
@@ -299,7 +299,7 @@ fn figures_command<'a>(alloc: Global) -> Result<Command<'a>, AllocError>
         alloc,
         "log",
         false,
-        "The log's file [default: standard input]",
+        "The log's file, or - [default: standard input]",
     ))?;
     Ok(command)
 }

@@ -1,6 +1,7 @@
 -- What the program reads, and why it can't.
-use Rattle.std.specs.Prelude.{Bool, List, Option, codes, if◌then◌else◌, unwrap_or, ℕ, ◌++◌}
+use Rattle.std.specs.Prelude.{Bool, List, None, Option, Some, codes, if◌then◌else◌, unwrap_or, ℕ, ◌++◌}
 use Rattle.std.specs.Borrow.{Bor}
+use Rattle.std.specs.Str.{bytes_eq}
 use Rattle.std.specs.declared.io.ErrorKind.{ErrorKind}
 use Rattle.std.specs.declared.io.ErrorKind.TheVariants as kinds
 use Rattle.sim_clock.specs.declared.refusal.Refusal.TheVariants as refusals
@@ -15,6 +16,11 @@ use Rattle.sqs_shell.specs.declared.files.InputError.TheVariants as errors
 -- the newest version of scenarios that is read: version 3 if it is asked for
 abbrev pub newest_of : Bool → Newest
 newest_of version_3 = if version_3 then Third else Second
+
+-- the file that a path names, if it names one: none for `-`, which stands for standard input or output
+abbrev pub file_named : Option (List ℕ) → Option (List ℕ)
+file_named None = None
+file_named (Some path) = if bytes_eq path (codes "-") then None else Some path
 
 -- the path of a script: its name in the folder, which is . if none is given
 abbrev pub script_path : Option (List ℕ) → List ℕ → List ℕ

@@ -3,7 +3,7 @@ ghost use Rattle.std.specs.Prelude.{◌≡◌};
 ghost use Rattle.sqs_shell.specs.Statuses.{log_stop};
 
 use crate::faults::{Stop, tell, write_refusal};
-use crate::files::{Inputs, read_inputs};
+use crate::files::{Inputs, file_named, read_inputs};
 use crate::splits::wanted_by;
 use sim_clock::Refusal;
 use sim_logs::LogFault;
@@ -54,7 +54,7 @@ fn printed<'a>(rt: &HostRuntime, asked: FiguresLine<'a>) -> Result<(), Stop<'a>>
     )?;
     let scenario = draft.read(rt.alloc(), &scripts)?;
     let wanted = wanted_by(asked.wanted);
-    let text = match asked.log {
+    let text = match file_named(asked.log) {
         None => figures_of(rt, &scenario, wanted, rt.stdin(), "-")?,
         Some(path) => match File::open(rt, path) {
             Ok(file) => figures_of(rt, &scenario, wanted, file, path)?,
@@ -67,7 +67,7 @@ fn printed<'a>(rt: &HostRuntime, asked: FiguresLine<'a>) -> Result<(), Stop<'a>>
     }
 }
 
-/// Prints the figures of a log, from a file or else from standard input. The log is of a scenario,
+/// Prints the figures of a log, from a file, or else or for `-` from standard input. The log is of a scenario,
 /// which names its queues and actors.
 pub fn figures(rt: &HostRuntime, asked: FiguresLine<'_>) -> ExitCode {
     match printed(rt, asked) {

@@ -1,7 +1,8 @@
 //! The files of the program: a scenario and its scripts, and buffered writers.
 ghost use Rattle.std.specs.Prelude.{◌≡◌, IfOk, IfSome, false, option_map, string_bytes};
 ghost use Rattle.sim_records.specs.Writers.{has_failed};
-ghost use Rattle.sqs_shell.specs.Inputs.{input_stop, newest_of, script_path};
+ghost use Rattle.sqs_command_line.specs.Lines.{told};
+ghost use Rattle.sqs_shell.specs.Inputs.{file_named, input_stop, newest_of, script_path};
 
 use crate::faults::{Stop, write_refusal};
 use sim_clock::Refusal;
@@ -97,6 +98,16 @@ fn bytes_of<R: Read>(alloc: Global, reader: &mut R) -> Result<Vec<u8>, InputErro
     Err(InputError::Unreadable)
 }
 
+/// The file that a path names, if it names one: `-` stands for standard input or output.
+pub fn file_named(path: Option<&str>) -> Option<&str>
+    ensures { told result ≡ file_named (told path.entry) }
+{
+    match path {
+        Some("-") => None,
+        other => other,
+    }
+}
+
 // All bytes of a file.
 fn file(rt: &HostRuntime, path: &str) -> Result<Vec<u8>, InputError> {
     let mut file = File::open(rt, path)?;
@@ -105,7 +116,7 @@ fn file(rt: &HostRuntime, path: &str) -> Result<Vec<u8>, InputError> {
 
 // The scenario's text, from a file or else from standard input.
 fn scenario<'a>(rt: &HostRuntime, path: Option<&'a str>) -> Result<Vec<u8>, Stop<'a>> {
-    let text = match path {
+    let text = match file_named(path) {
         Some(path) => file(rt, path),
         None => bytes_of(rt.alloc(), &mut rt.stdin()),
     };
@@ -156,7 +167,7 @@ fn newest(version_3: bool) -> Newest
     }
 }
 
-/// Reads a scenario from a file or else from standard input, and its scripts from a folder.
+/// Reads a scenario from a file, or else or for `-` from standard input, and its scripts from a folder.
 /// Version 3 is read only if it is asked for.
 pub fn read_inputs<'a>(
     rt: &HostRuntime,

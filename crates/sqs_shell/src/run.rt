@@ -2,7 +2,7 @@
 ghost use Rattle.std.specs.Prelude.{◌≡◌, false};
 
 use crate::faults::{Stop, tell, write_refusal};
-use crate::files::{Inputs, buffered, read_inputs};
+use crate::files::{Inputs, buffered, file_named, read_inputs};
 use crate::progress::Progress;
 use crate::splits::split;
 use sim_records::Out;
@@ -59,8 +59,9 @@ fn rehearsed<'a, W: Threads + Wait + Sync>(
 ) -> Result<(), Stop<'a>> {
     let inputs = read_inputs(rt, asked.scenario, asked.scripts, asked.version_3)?;
     let split = split(rt.alloc(), asked)?;
-    let progress = Progress::new(rt, asked.quiet, asked.log.is_some());
-    match asked.log {
+    let log = file_named(asked.log);
+    let progress = Progress::new(rt, asked.quiet, log.is_some());
+    match log {
         None => {
             let mut log = buffered(rt, rt.stdout())?;
             write(rt, threads, inputs, &split, &mut log, progress)
@@ -77,8 +78,8 @@ fn rehearsed<'a, W: Threads + Wait + Sync>(
     }
 }
 
-/// Rehearses a scenario, with its workers on these threads. Its log goes to a file or else to
-/// standard output. The state at the end and the report go to standard output.
+/// Rehearses a scenario, with its workers on these threads. Its log goes to a file, or
+/// else or for `-` to standard output. The state at the end and the report go to standard output.
 pub fn run<W: Threads + Wait + Sync>(
     rt: &HostRuntime,
     threads: &W,
