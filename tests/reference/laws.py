@@ -186,6 +186,10 @@ class Given(NamedTuple):
     delay_s: int
 
 
+# A queue, a scope and a deduplication id.
+Key = tuple[str, str | None, str | None]
+
+
 class Sends:
     """What each row that sends was given, by its place in the log."""
 
@@ -238,6 +242,14 @@ class Sends:
             self.away[way] = [(at, name) for at, name in waiting if at + greatest > row.at]
         delay = self.scenario.queues[row.queue].get("delay_s", 0)
         return Given(self.groups.get(message) if message else None, message, delay)
+
+
+def deduplication_key(row: Row, given: Given, scenario: Scenario) -> Key | None:
+    """The queue, scope and deduplication id of what is sent to a FIFO queue, if the rows tell them."""
+    queue = scenario.queues[row.queue]
+    by_group = queue.get("dedup_scope", "queue") == "group"
+    known = queue["fifo"] and given.id is not None and (given.group is not None or not by_group)
+    return (row.queue, given.group if by_group else None, given.id) if known else None
 
 
 def drawn_group(actor: Table, seed: int, nth: int) -> str:
@@ -336,7 +348,8 @@ def receipts(log: Log, scenario: Scenario) -> None:
     left, `deleted` if it is the newest (at a FIFO queue: of a message in flight), `kept` if it is an older one at a
     standard queue, and else ReceiptHandleIsInvalid, as for a receipt never given. A change is BadTimeout if it is over
     12 hours; else `ok` if it is the newest of a message in flight, but BadTimeout if its end would be over 12 hours
-    after the receive; and else MessageNotInflight, or ReceiptHandleIsInvalid if never given."""
+    after the receive; and else MessageNotInflight, or ReceiptHandleIsInvalid if never given. One that is `ok` tells the
+    timeout that it asks for."""
     state = ReceiptState(scenario)
     for row in log:
         if row.is_received():
@@ -347,6 +360,10 @@ def receipts(log: Log, scenario: Scenario) -> None:
             message, want = state.delete(row) if row.call == "delete" else state.change(row)
             must(row.answer == want, row, f"not {want}")
             must(row.message == (message if want[0].islower() else ""), row, "another message")
+        if row.is_changed():
+            told, longest = 1000 * int(row.detail), scenario.longest_asked_ms(row)
+            is_script = scenario.actors[row.agent]["kind"] == "script"
+            must(told == longest if is_script else told <= longest, row, "a timeout that is not asked for")
         state.follow(row)
 
 
@@ -481,7 +498,7 @@ def releases(log: Log, scenario: Scenario) -> None:
     """A message in flight is released, or leaves for the dead-letter queue, exactly when the timeout of its last receive
     or change ends. Until then it may be deleted or expire. If it is in flight at the end of the log, the timeout ends
     past the horizon. Rows are in the order of time, so none comes behind the end of the timeout of what is in flight.
-    The timeout of a change ends at most 12 hours after the last receive."""
+    No timeout ends later than 12 hours after the last receive."""
     ends: dict[str, int] = {}
     since: dict[str, int] = {}
     for row in log:
@@ -490,10 +507,11 @@ def releases(log: Log, scenario: Scenario) -> None:
         elif row.is_changed():
             must(row.at <= ends.get(row.message, row.at), row, "changed behind the end of the timeout")
             ends[row.message] = row.at + 1000 * int(row.detail)
-            must(ends[row.message] <= since[row.message] + LONGEST_FLIGHT_MS, row, "in flight for over 12 hours")
         elif row.call == "release" or row.leaves():
             end = ends.pop(row.message, row.at)
             must(row.at == end if row.call in ("release", "redrive") else row.at <= end, row, "not back just then")
+        if row.is_received() or row.is_changed():
+            must(ends[row.message] <= since[row.message] + LONGEST_FLIGHT_MS, row, "in flight for over 12 hours")
     must(all(end > scenario.horizon for end in ends.values()), None, "not back by the end")
 
 
@@ -527,16 +545,34 @@ def fifo(log: Log, scenario: Scenario) -> None:
                 there[groups[message]].remove(message)
 
 
+def repeats(log: Log, scenario: Scenario) -> None:
+    """A row with the answer `repeat` is of a FIFO queue, and names a message that came there less than 5 minutes before.
+    If it is of a send and the message was sent, both sends have one deduplication id, in one scope. A send to a FIFO
+    queue is a repeat, or refused, if one of its id and scope was `new` there less than 5 minutes before."""
+    given = Sends(log, scenario).given
+    came: dict[str, tuple[int, Key | None]] = {}
+    last: dict[Key, int] = {}
+    for place, row in enumerate(log):
+        key = deduplication_key(row, given[place], scenario) if row.call == "send" else None
+        if row.answer == "repeat":
+            at, other = came[row.message]
+            must(scenario.queues[row.queue]["fifo"] and row.at < at + DEDUPLICATION_MS, row, "repeats nothing")
+            must(key is None or other in (None, key), row, "repeats another")
+        if row.comes():
+            must(key is None or row.at >= last.get(key, -DEDUPLICATION_MS) + DEDUPLICATION_MS, row, "new again")
+            came[row.message] = (row.at, key)
+            if key is not None:
+                last[key] = row.at
+
+
 # ---- laws that hold by the definitions ----
 def back_in_time(log: Log, scenario: Scenario) -> None:
-    """What its timeout brings back at a moment is not changed or deleted by a call of that moment, which comes later. No
-    receive lets a message stay in flight for over 12 hours."""
+    """What its timeout brings back at a moment is not changed or deleted by a call of that moment, which comes later."""
     ends: dict[str, int] = {}
     for row in log:
         message = row.message
         if row.is_received():
             ends[message] = row.at + scenario.visibility_ms(row)
-            must(ends[message] <= row.at + LONGEST_FLIGHT_MS, row, "in flight for over 12 hours")
         elif row.is_changed():
             must(row.at < ends[message], row, "changed though it comes back")
             ends[message] = row.at + 1000 * int(row.detail)
@@ -550,8 +586,8 @@ def deduplication(log: Log, scenario: Scenario) -> None:
     deduplication id in the same scope came less than 5 minutes before it, and then it names that message; else it is
     `new`. At a standard queue, and of what was redriven or moved, all are `new`."""
     given = Sends(log, scenario).given
-    last: dict[tuple[str, str | None, str | None], Row] = {}
-    made: dict[str, tuple[int, tuple[str, str | None, str | None] | None]] = {}
+    last: dict[Key, Row] = {}
+    made: dict[str, tuple[int, Key | None]] = {}
     for place, row in enumerate(log):
         if row.answer not in ("new", "repeat"):
             continue
@@ -559,16 +595,15 @@ def deduplication(log: Log, scenario: Scenario) -> None:
         if not queue["fifo"] or row.call == "arrive" and row.agent not in scenario.actors:
             must(row.answer == "new", row, "deduplicated")
             continue
-        by_group = queue.get("dedup_scope", "queue") == "group"
-        key = (row.queue, given[place].group if by_group else None, given[place].id)
-        known = given[place].id is not None and (given[place].group is not None or not by_group)
+        key = deduplication_key(row, given[place], scenario)
         if row.answer == "new":
-            must(not known or key not in last or row.at - last[key].at >= DEDUPLICATION_MS, row, "new again")
-            made[row.message] = (row.at, key if known else None)
-            last[key] = row
+            must(key not in last or row.at - last[key].at >= DEDUPLICATION_MS, row, "new again")
+            made[row.message] = (row.at, key)
+            if key is not None:
+                last[key] = row
         else:
             must(row.message in made and row.at - made[row.message][0] < DEDUPLICATION_MS, row, "repeats nothing")
-            must(not known or made[row.message][1] in (None, key), row, "repeats another")
+            must(key is None or made[row.message][1] in (None, key), row, "repeats another")
 
 
 def journeys(log: Log, scenario: Scenario) -> None:
@@ -719,8 +754,8 @@ def what_is_under_way(log: Log, scenario: Scenario, ending: Ending) -> None:
 
 
 LAWS: tuple[Callable[[Log, Scenario], None], ...] = (
-    in_flight, the_end, dead_letters, receipts, time, retention, delays, releases, fifo, back_in_time, deduplication,
-    journeys, scalers, copies)
+    in_flight, the_end, dead_letters, receipts, time, retention, delays, releases, fifo, repeats, back_in_time,
+    deduplication, journeys, scalers, copies)
 
 
 ENDING_LAWS: tuple[Callable[[Log, Scenario, Ending], None], ...] = (what_is_left, what_is_under_way)

@@ -1,13 +1,8 @@
 -- The sites of a run that no way leads to from any other site run alone: what happens there is their own one-list run.
 use Rattle.std.specs.Prelude.{Bool, IsNone, List, None, Option, Some, [], false, filter, map, suc, true, zero, ℕ, ◌+◌, ◌++◌, ◌==◌, ◌∷◌, ◌≡◌, ◌⊎◌}
 use Rattle.std.proofs.Common.{ap, append-nil, arith, inl, inr, refl, subst, sym, ◌∙◌}
-use Rattle.std.proofs.lemmas.Bool.{eqb-true}
-use Rattle.std.proofs.lemmas.List.Elements.{filter-append}
-use Rattle.sim_clock.specs.declared.key.Key.{Key}
-use Rattle.sim_clock.specs.Order.{due_before}
-use Rattle.sim_engine.specs.declared.edge.Edge.{Edge}
+use Rattle.sqs_laws.proofs.Terms.{Conditions, due_before, Edge, eqb-true, filter-append, IsRowOf, Key}
 use Rattle.sim_engine.specs.Engine.{Engine}
-use Rattle.sim_engine.specs.Laws.{Conditions, IsRowOf}
 use Rattle.sim_engine.specs.Members.{Each, In}
 use Rattle.sim_engine.specs.Parts.{handled_in, has_due, is_of, part_due, part_of}
 use Rattle.sim_engine.specs.Setting.{IsRunOf}

@@ -1,45 +1,19 @@
 -- The rows of each call of a queue are a chain of single moves.
-use Rattle.std.specs.Prelude.{All, Bool, List, None, Option, Some, [], count_by, false, get_or, length, map, true, ℕ, ◌+◌, ◌-◌, ◌++◌, ◌<◌, ◌==◌, ◌∷◌, ◌≡◌, ◌≢◌, ◌≤◌, slice_get, nat_lt, if◌then◌else◌}
+use Rattle.std.specs.Prelude.{All, Bool, List, None, Option, Some, [], false, get_or, length, map, true, ℕ, ◌+◌, ◌-◌, ◌++◌, ◌<◌, ◌==◌, ◌∷◌, ◌≡◌, ◌≢◌, ◌≤◌, slice_get, nat_lt, if◌then◌else◌}
 use Rattle.std.proofs.Common.{ap, arith, refl, subst, sym, ◌∙◌}
-use Rattle.std.proofs.lemmas.Bool.{eqb-true}
-use Rattle.std.proofs.lemmas.Bool.Decides.{nat_tests}
-use Rattle.std.proofs.lemmas.List.Sums.{sum_by-cons}
-use Rattle.std.proofs.lemmas.List.Elements.{All-append, All-cons, All-head, All-nil, All-tail}
-use Rattle.sim_clock.specs.declared.key.Key.{Key}
-use Rattle.sim_clock.specs.Firsts.{changed, without}
-use Rattle.sqs_message.specs.declared.ids.MessageId.{MessageId}
-use Rattle.sqs_message.specs.declared.message.Message.{Message}
-use Rattle.sqs_message.specs.declared.message.Place.{Place}
+use Rattle.sqs_laws.proofs.Terms.{All-append, All-cons, All-head, All-nil, All-tail, all_came_back, Apart, append_assoc, bit, came_back, changed, Core, drawn_latency, drawn_uniform, Draws, Effect, eqb-true, find_all, find_changed, find_picked, Got, got_of, got_row, has_number, id_of, in_flight, is_in_flight, is_visible, Key, leaves, Load, Message, MessageId, nat_tests, numbered, one_number, other_without, Outbound, Place, Policy, Queue, QueueSettings, received, redrive_by, redrive_of, redrive_row, released, released_found, released_when, Row, Scenario, slice_get_within, Stand, taken_out, total_changed, visible_again, with_change, without}
 use Rattle.sqs_message.specs.declared.message.Place.TheVariants as places
 use Rattle.sqs_message.specs.declared.row.Detail.TheVariants as details
-use Rattle.sqs_message.specs.declared.row.Row.{Row}
 use Rattle.sqs_message.specs.declared.row.RowReceipt.TheVariants as receipts
-use Rattle.sqs_redrive.specs.declared.answers.Got.{Got}
-use Rattle.sqs_redrive.specs.declared.settings.Policy.{Policy}
-use Rattle.sqs_redrive.specs.declared.settings.QueueSettings.{QueueSettings}
-use Rattle.sqs_redrive.specs.declared.transfers.Load.{Load}
-use Rattle.sqs_model.specs.Acts.{all_came_back, came_back, got_row, redrive_by, redrive_row}
 use Rattle.sqs_model.specs.Giving.{all_got, all_left, all_received, all_released}
-use Rattle.sqs_model.specs.Queue.{Queue, has_number, id_of, in_flight, is_in_flight, is_visible, numbered, taken_out, with_change}
-use Rattle.sqs_model.specs.Receive.{got_of, received}
-use Rattle.sqs_model.specs.Return.{leaves, released, released_found, released_when, redrive_of, visible_again}
-use Rattle.sqs_model.specs.Scenario.{Scenario}
-use Rattle.sqs_model.specs.Site.{Core, Effect}
-use Rattle.sqs_model.proofs.Chosen.{Stand}
-use Rattle.sqs_model.proofs.Counts.{find_all, find_changed, find_picked, total, total_changed}
-use Rattle.sqs_model.proofs.Ledger.{bit}
 use Rattle.sqs_model.proofs.Giving.{find_apart}
-use Rattle.sqs_model.proofs.Numbered.{Apart, one_number, other_without}
 use Rattle.sqs_laws.specs.Laws.{is_fifo, MayArrive}
 use Rattle.sqs_laws.specs.Words as words
 use Rattle.sqs_laws.specs.Sends.{milliseconds_or}
 use Rattle.sqs_laws.proofs.Moves.{FitsSender, IsAskedFor, Chain, IsNext, IsBehind, IsStocked, Move, Tells, chain_append, of_none, one_move, receives, redrives, releases, actors_of, asks_later, IsTraced, IsUnderWay, AreTraced, chain_keeps}
+use Rattle.sqs_laws.proofs.Said.{count_total}
 use Rattle.sqs_laws.proofs.Traces.{chain_traces, sent_later, group_later}
 use Rattle.sqs_model.proofs.Effects.{latency_least}
-use Rattle.sqs_model.specs.Draw.{drawn_latency, Draws, drawn_uniform}
-use Rattle.std.proofs.lemmas.Option.{slice_get_within}
-use Rattle.std.proofs.lemmas.List.{append_assoc}
-use Rattle.sqs_redrive.specs.declared.transfers.Outbound.{Outbound}
 use Rattle.sqs_redrive.specs.declared.settings.Latency.{Latency}
 
 -- what a row tells, each as it computes
@@ -95,15 +69,11 @@ visible_rests places.Visible e = refl
 visible_rests places.InFlight e = cc
 
 -- how many messages of a queue are in flight
-pub flights_are : (ms : List Message) → count_by is_in_flight ms ≡ total (λ m. bit (is_in_flight m)) ms
-flights_are [] = refl
-flights_are (m ∷ ms) = omega (arith, sum_by-cons (λ (x : Message). bit (is_in_flight x)) m ms, flights_are ms)
-
 flights_changed : (q : Queue) (n : ℕ) (f : Message → Message) (m : Message) → numbered n q.records ≡ Some m → is_in_flight m ≡ false → is_in_flight (f m) ≡ true → in_flight (with_change q n f) ≡ in_flight q + 1
 flights_changed q n f m s a b =
     let before : bit (is_in_flight m) ≡ 0 = ap bit a in
     let now : bit (is_in_flight (f m)) ≡ 1 = ap bit b in
-    omega (arith, flights_are q.records, flights_are (changed (has_number n) f q.records), total_changed (has_number n) (λ (x : Message). bit (is_in_flight x)) f q.records m s, before, now)
+    omega (arith, count_total is_in_flight q.records, count_total is_in_flight (changed (has_number n) f q.records), total_changed (has_number n) (λ (x : Message). bit (is_in_flight x)) f q.records m s, before, now)
 
 -- what leaves arrives after a latency that is drawn
 may_arrive : (l : Latency) (d : Draws) (left : ℕ) → MayArrive l left (left + (drawn_latency l d).0)
@@ -164,6 +134,8 @@ module _ (key : Key) where
         given = λ e. cc;
         sends = λ e. cc;
         enters = λ e. cc;
+        anew = λ e. cc;
+        asks = λ e. cc;
         repeats = λ e. cc;
         brought = λ e. cc;
         ends = λ _ e. cc;
@@ -248,7 +220,7 @@ module _ (key : Key) where
                     lasts = ap (λ x. leaves x m) p ∙ l;
                     after = refl;
                   });
-            }) (of_none u past q _ _ refl refl refl refl);
+            }) (of_none u past q _ _ (λ e. cc) refl refl refl refl);
       }
   back_when u past true None q d n m home i t e p k l f w = cc
   back_when u past true (Some policy) q d n m home i t e p k l f w =
@@ -276,7 +248,7 @@ module _ (key : Key) where
                     to = refl;
                     after = refl;
                   });
-            }) (of_none u past q _ _ refl refl refl refl);
+            }) (of_none u past q _ _ (λ e. cc) refl refl refl refl);
       })
 
   -- a row about it leaves the site's queue, actors and polls as they are

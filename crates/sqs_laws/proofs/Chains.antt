@@ -1,54 +1,27 @@
 -- The rows of a handling are a chain of single moves.
 use Rattle.std.specs.Prelude.{All, List, None, Option, Result, Some, [], false, find, ℕ, ◌+◌, ◌++◌, ◌∷◌, ◌≡◌, ◌≤◌, slice_get, length}
 use Rattle.std.proofs.Common.{ap, arith, inl, refl, subst, sym, ◌∙◌, true}
-use Rattle.std.proofs.lemmas.List.{append-nil, append_assoc}
-use Rattle.std.proofs.lemmas.List.Elements.{All-append, All-drop, All-nil, All-push, All-weaker}
-use Rattle.sim_clock.specs.declared.key.Class.TheVariants.{Expiry, Release, Wake}
-use Rattle.sim_clock.specs.declared.key.Key.{Key}
-use Rattle.sqs_message.specs.declared.message.Message.{Message}
-use Rattle.sqs_message.specs.declared.row.Row.{Row}
-use Rattle.sqs_redrive.specs.declared.answers.Got.{Got}
-use Rattle.sim_clock.specs.declared.refusal.Refusal.{Refusal}
-use Rattle.sqs_redrive.specs.declared.answers.Sent.{Sent}
-use Rattle.sqs_model.specs.declared.acts.Act.{Act}
+use Rattle.sqs_model.specs.Receive.{is_bad_timeout}
+use Rattle.sqs_laws.proofs.Terms.{Act, Actor, actor_numbered, ActorSettings, All-append, All-drop, All-nil, All-push, All-weaker, all_changed, all_each, all_without, Answer, append-nil, append_assoc, arrival_done, arrived, CallLaw, Core, DueLaw, each_all, Effect, effect_of, ends_at, Expiry, find_all, find_picked, Forward, give_most, given, Got, handle_expiry, handled_goes, handled_when, has_key, In, in_right, is_actor, is_arrival, is_task, IsDone, IsDueThere, IsFound, IsNameless, IsTold, Key, Load, Message, next, numbered, Outbound, Poll, Queue, receive_row, Redrive, Refusal, Release, release_done, released, Row, says, Scenario, send_made, sends, Sent, Site, Standing, Task, task_numbered, transfer_key, Wake, with_actor, with_poll, with_task}
 use Rattle.sqs_model.specs.declared.acts.Act.TheVariants as acts
-use Rattle.sqs_model.specs.declared.acts.Answer.{Answer}
 use Rattle.sqs_model.specs.declared.acts.Answer.TheVariants as told_by
-use Rattle.sqs_model.specs.declared.acts.Standing.{Standing}
-use Rattle.sqs_model.specs.Actor.{Actor, next}
-use Rattle.sqs_model.specs.declared.agents.ActorSettings.{ActorSettings}
 use Rattle.sqs_message.specs.declared.row.RowAnswer.TheVariants as answers
-use Rattle.sqs_model.specs.Acts.{act_made, given, receive_row, send_made, sends, with_poll}
-use Rattle.sqs_model.specs.Arrive.{arrived}
-use Rattle.sqs_model.specs.Queue.{Queue, numbered}
-use Rattle.sqs_model.specs.Receive.{give_most}
-use Rattle.sqs_model.specs.Return.{released}
-use Rattle.sqs_model.specs.Scenario.{Scenario}
-use Rattle.sqs_model.specs.Site.{Core, Effect, Poll, Site, has_key, is_task, task_numbered, with_task, actor_numbered, is_actor, says, with_actor}
-use Rattle.sqs_model.specs.Step.{arrival_done, ends_at, handled_when, handle_expiry, handled, is_arrival, release_done}
+use Rattle.sqs_model.specs.Acts.{act_made}
+use Rattle.sqs_model.specs.Step.{handled}
 use Rattle.sqs_laws.specs.Laws.{is_actor_of}
-use Rattle.sqs_redrive.specs.declared.transfers.Outbound.{Outbound}
-use Rattle.sqs_redrive.specs.Transfers.{transfer_key}
 use Rattle.sim_clock.proofs.Least.{key_tied}
-use Rattle.sqs_model.specs.Task.{Task}
 use Rattle.sqs_model.proofs.Sending.{IsForward, Sends, sends_as}
-use Rattle.sqs_model.proofs.CallWalk.{effect_of, IsDone, CallLaw, DueLaw, IsNameless, IsTold, handled_goes}
-use Rattle.sqs_model.proofs.Counts.{all_changed, all_without, find_all, find_picked}
 use Rattle.sqs_model.proofs.Decisions.{forward_of, next_decides}
-use Rattle.sqs_model.proofs.Members.{In, all_each, in_right}
-use Rattle.sqs_model.proofs.Sites.{each_all}
-use Rattle.sqs_model.proofs.SiteAccounts.{IsDueThere, IsFound}
 use Rattle.sqs_laws.proofs.Gives.{AreOfScenario, Fits, HasActed, HasSent, IsAwake, IsNoProducer, MayGive, other_acted, polled_fits, standing, stands, turn_gives, turned_found}
 use Rattle.sqs_laws.proofs.Giving.{AreKnown, IsGiven, most_given}
 use Rattle.sqs_laws.proofs.Holding.{AsksOwn, HearsOfKnown, IsInformed, ServesKnown, informed_later, known_later, next_acts}
 use Rattle.sqs_laws.proofs.Numbers.{AreOver}
-use Rattle.sqs_laws.proofs.Polled.{IsPolled, asks_now, polled_asks, polled_later, waits_now}
+use Rattle.sqs_laws.proofs.Polled.{IsPolled, asks_now, change_asked, polled_asks, polled_later, waits_now}
 use Rattle.sqs_laws.proofs.Moves.{FitsSender, IsAskedFor, Chain, IsStocked, Keeps, chain_append, chain_keeps, one_move, asks_later, AreTraced, FitsLoad}
 use Rattle.sqs_laws.proofs.Rows.{step_of, stepped_task, nameless_none, IsChain, arrived_chain, change_chain, delete_chain, expiry_chain, quiet_move, release_chain, sends_chain, serve_chain, step_chain, IsArriving}
 use Rattle.sqs_laws.proofs.Traces.{chain_traces, sent_later}
 use Rattle.sqs_model.proofs.ConsumerWakes.{MayForwardBy}
-use Rattle.sqs_redrive.specs.declared.transfers.Load.{Load}
-use Rattle.sqs_redrive.specs.declared.transfers.Load.TheVariants.{Forward, Move as Moves, Redrive}
+use Rattle.sqs_redrive.specs.declared.transfers.Load.TheVariants.{Move as Moves}
 use Rattle.sqs_model.specs.declared.agents.Forwarding.{Forwarding}
 
 -- a site whose queue's messages are in order, whose actors hold only messages of it, and whose polls were asked for
@@ -214,11 +187,11 @@ module _ (u : Scenario) (past : List Row) (key : Key) (start : Queue) (fine : Is
         (subst (λ (y : ActorSettings). ServesKnown c.queue.site c.queue.arrivals (AsksOwn y.role) (next a key.at w).0) (sym (next_decides key.at a w).settings) x.serves, turn_gives u c.actors key n a w e h.numbers f (told_awake c n a w e t), own_forwards u key.at a w (find_all (is_actor n) (Fits u) c.actors a h.numbers.fit e).inside),
       )
 
-  polling : (rows : List Row) (a : Actor) (c : Core) (max wait : ℕ) (timeout : Option ℕ) → Stands c.queue c.actors a → Allows c a (acts.Receive max wait timeout) → (w : Row) → In (past ++ rows) w → w.key.at ≡ key.at → At rows c → At rows (with_poll key a c max wait timeout)
-  polling rows a c max wait timeout (i, f, e) m w n o h =
+  polling : (rows : List Row) (a : Actor) (c : Core) (max wait : ℕ) (timeout : Option ℕ) → is_bad_timeout timeout ≡ false → Stands c.queue c.actors a → Allows c a (acts.Receive max wait timeout) → (w : Row) → In (past ++ rows) w → w.key.at ≡ key.at → At rows c → At rows (with_poll key a c max wait timeout)
+  polling rows a c max wait timeout t (i, f, e) m w n o h =
       let b : Actor = record a { polls = a.polls + 1 } in
       let j : IsInformed c.queue.site c.queue.arrivals b = record { held = i.held; done = i.done; failed = i.failed } in
-      record { chain = h.chain; numbers = stands u c.actors b (polled_fits u a (a.polls + 1) f) h.numbers; actors = all_changed (is_actor b.number) (IsInformed c.queue.site c.queue.arrivals) (λ _. b) (λ _ _. j) c.actors h.actors; polls = All-push (IsOpen (past ++ rows)) c.polls _ h.polls (waits_now u (past ++ rows) key.at max wait _ a.settings f.settings m.0 m.1.1 w n o refl, omega arith); tasks = h.tasks }
+      record { chain = h.chain; numbers = stands u c.actors b (polled_fits u a (a.polls + 1) f) h.numbers; actors = all_changed (is_actor b.number) (IsInformed c.queue.site c.queue.arrivals) (λ _. b) (λ _ _. j) c.actors h.actors; polls = All-push (IsOpen (past ++ rows)) c.polls _ h.polls (waits_now u (past ++ rows) key.at max wait _ a.settings f.settings m.0 m.1.1 t w n o refl, omega arith); tasks = h.tasks }
 
   -- an actor that has acted
   sent_leaves : (a : Actor) (c : Core) (body : List ℕ) (x : Result Sent Refusal × Queue) → (send_made key a c body x).effect.core.actors ≡ c.actors
@@ -236,8 +209,8 @@ module _ (u : Scenario) (past : List Row) (key : Key) (start : Queue) (fine : Is
       subst (λ (z : Actor). HasSent u.seed z.settings.role key.at z) is m.1
   acting a c (acts.Receive max wait timeout) i f e m n = others_act a c (acts.Receive max wait timeout) f m.0 n
   acting a c (acts.Delete text) i f e m n = others_act a c (acts.Delete text) f m n
-  acting a c (acts.Change text timeout) i f e m n = others_act a c (acts.Change text timeout) f m n
-  acting a c (acts.Prolong text timeout) i f e m n = others_act a c (acts.Prolong text timeout) f m n
+  acting a c (acts.Change text timeout) i f e m n = others_act a c (acts.Change text timeout) f m.0 n
+  acting a c (acts.Prolong text timeout) i f e m n = others_act a c (acts.Prolong text timeout) f m.0 n
   acting a c (acts.Start task) i f e m n = others_act a c (acts.Start task) f m n
   acting a c (acts.Cancel task) i f e m n = others_act a c (acts.Cancel task) f m n
   acting a c (acts.Serve id receipt failed forward) i f e m n = others_act a c (acts.Serve id receipt failed forward) f m n
@@ -262,10 +235,12 @@ module _ (u : Scenario) (past : List Row) (key : Key) (start : Queue) (fine : Is
         Acted = HasActed u key;
         Asks = AsksAfter;
         later = λ rows e agent timeout a. subst (λ r. IsAskedFor u r agent key.at timeout) (append_assoc past rows e.rows) (asks_later u (past ++ rows) e.rows agent key.at timeout a);
-        asked = λ rows a c max wait timeout s m h. asks_now u (past ++ rows) a.number key.at max wait timeout a.settings s.1.settings m.0 m.1.1;
+        Fine = λ timeout. is_bad_timeout timeout ≡ false;
+        fine = λ timeout b. b;
+        asked = λ rows a c max wait timeout b s m h. asks_now u (past ++ rows) a.number key.at max wait timeout a.settings s.1.settings m.0 m.1.1 b;
         waiting = λ rows c h. each_all (λ p. AsksAfter rows p.actor p.timeout) c.polls (All-weaker (IsOpen (past ++ rows)) (λ p. AsksAfter rows p.actor p.timeout) (λ p x. polled_asks u (past ++ rows) key.at p x.1 x.0) c.polls h.polls);
         gives = givingly;
-        changes = λ rows a c text timeout h. extends rows c _ h (change_chain u (past ++ rows) key a c text timeout (stocked rows c h) (here rows c h) (traces rows c h));
+        changes = λ rows a c x text timeout i m h. extends rows c _ h (change_chain u (past ++ rows) key a c text timeout (change_asked u key.at c.queue.site c.queue.arrivals a c.queue x text timeout i m.0 m.1) (stocked rows c h) (here rows c h) (traces rows c h));
         deletes = λ rows a c text h. extends rows c _ h (delete_chain u (past ++ rows) key a c text (stocked rows c h));
         sends = λ rows a c body delay group id m h. extends rows c _ h (sends_chain u (past ++ rows) key a c (record { body = body; delay = delay; group = group; id = id }) m.1.0 (stocked rows c h) c.queue.settings.kind refl);
         draws = λ rows c hosts h. record { chain = h.chain; numbers = h.numbers; actors = h.actors; polls = h.polls; tasks = h.tasks };
@@ -275,10 +250,10 @@ module _ (u : Scenario) (past : List Row) (key : Key) (start : Queue) (fine : Is
         May = Allows;
         turns = turning;
         acted = λ rows a c x i s m h g. acting a c x i s.1 s.2 m.1 g.0.numbers;
-        polls = λ rows a c max wait timeout e s m i h.
+        polls = λ rows a c max wait timeout e b s m i h.
             let row : Row = receive_row key c a.number answers.Wait in
             let within : In (past ++ (rows ++ row ∷ [])) row = in_right past (rows ++ row ∷ []) row (in_right rows (row ∷ []) row (inl refl)) in
-            (polling (rows ++ row ∷ []) a c max wait timeout s m row within refl (quietly rows c c row i h h).0, none_sent (rows ++ row ∷ []));
+            (polling (rows ++ row ∷ []) a c max wait timeout b s m row within refl (quietly rows c c row i h h).0, none_sent (rows ++ row ∷ []));
         serves = λ rows a c id r failed o m h. extends rows c _ h (serve_chain u (past ++ rows) key a c id r failed o m.0.0 m.0.1 (all_each (IsForwardOf u) (λ x. (behind : List Row) → FitsSender u behind x) (λ x y behind. forward_fits u behind x x.load y.0 y.1) o m.2));
       }
 

@@ -1,21 +1,8 @@
 -- Delays: a message that was sent is not received before its delay is over, and is released just then.
 use Rattle.std.specs.Prelude.{Bool, List, None, Option, Some, [], false, if◌then◌else◌, is_none, nat_lt, true, ℕ, ◌&&◌, ◌+◌, ◌++◌, ◌<◌, ◌==◌, ◌∷◌, ◌≡◌, ◌≤◌, ◌⊎◌, ◌||◌, nat_le, length}
 use Rattle.std.proofs.Common.{ap, arith, inl, inr, refl, subst, sym, ◌∙◌, is_none, nat_lt}
-use Rattle.std.proofs.Math.Bool.{and-false, or-false, or-true}
-use Rattle.std.proofs.lemmas.Bool.Decides.{nat_tests}
-use Rattle.sim_clock.specs.declared.key.Key.{Key}
-use Rattle.sqs_message.specs.declared.ids.MessageId.{MessageId}
-use Rattle.sqs_message.specs.declared.message.Message.{Message}
-use Rattle.sqs_message.specs.declared.message.Place.{Place}
+use Rattle.sqs_laws.proofs.Terms.{and-false, by_cases, Forward, id_of, In, in_left, in_right, is_delayed, is_in_flight, is_visible, IsRunOf, IsSoundScenario, Key, Load, Message, MessageId, nat_tests, numbered, of_all, or-false, or-true, Place, Queue, Redrive, Row, Run, Scenario, visible_again}
 use Rattle.sqs_message.specs.declared.message.Place.TheVariants as places
-use Rattle.sqs_message.specs.declared.row.Row.{Row}
-use Rattle.sqs_model.specs.Progress.{IsSoundScenario}
-use Rattle.sqs_model.specs.Queue.{Queue, id_of, is_delayed, is_in_flight, is_visible, numbered}
-use Rattle.sqs_model.specs.Return.{visible_again}
-use Rattle.sqs_model.specs.Run.{IsRunOf, Run}
-use Rattle.sqs_model.specs.Scenario.{Scenario}
-use Rattle.sqs_model.proofs.Branches.{by_cases}
-use Rattle.sqs_model.proofs.Members.{In, in_left, in_right, of_all}
 use Rattle.sqs_laws.specs.Laws.{is_actor_of, delay_brought, CameWith, IsDelayed, Delays}
 use Rattle.sqs_laws.specs.Sends.{delay_given, GivesAs}
 use Rattle.sqs_laws.specs.Words.{came_by, is_release, is_send, names, was_released, flying, EachRow}
@@ -29,8 +16,7 @@ use Rattle.sqs_laws.proofs.Order.{rows_in_time}
 use Rattle.sqs_laws.proofs.Said.{any_push, names_same, none_leaves, last_as}
 use Rattle.sqs_laws.proofs.Slots.{IsStep, MessageLaw, Slot, by_messages, gone, of_there, of_unborn, there, unborn}
 use Rattle.sqs_laws.proofs.Worlds.{IsNow, RowLaw, both, every_row_by}
-use Rattle.sqs_redrive.specs.declared.transfers.Load.{Load}
-use Rattle.sqs_redrive.specs.declared.transfers.Load.TheVariants.{Forward, Move as Moves, Redrive}
+use Rattle.sqs_redrive.specs.declared.transfers.Load.TheVariants.{Move as Moves}
 
 -- what waits is delayed until the end of its delay, and else it is visible
 pub waits_delayed : (at delay : ℕ) (m : Message) → Waits at delay m → is_delayed m ≡ true → (0 < delay) × (m.release ≡ Some (at + delay))

@@ -1,18 +1,7 @@
 -- The end is the end: messages are numbered as they come, and none that has left is named as one that is there.
 use Rattle.std.specs.Prelude.{Bool, List, None, Option, Some, [], false, is_none, nat_lt, true, ℕ, ◌&&◌, ◌+◌, ◌++◌, ◌<◌, ◌∷◌, ◌≡◌}
 use Rattle.std.proofs.Common.{ap, arith, refl, subst, sym, true≢false, ◌∙◌}
-use Rattle.std.proofs.lemmas.Bool.{eq-eqb, ne_eqb}
-use Rattle.std.proofs.Math.Bool.{and-false}
-use Rattle.std.proofs.lemmas.Bool.Decides.{nat_tests}
-use Rattle.sim_clock.specs.declared.key.Key.{Key}
-use Rattle.sqs_message.specs.declared.ids.MessageId.{MessageId}
-use Rattle.sqs_message.specs.declared.message.Message.{Message}
-use Rattle.sqs_message.specs.declared.row.Row.{Row}
-use Rattle.sqs_model.specs.Queue.{Queue, id_of, numbered}
-use Rattle.sqs_model.specs.Run.{IsRunOf, Run}
-use Rattle.sqs_model.specs.Scenario.{Scenario}
-use Rattle.sqs_model.proofs.Ledger.{bit}
-use Rattle.sqs_model.proofs.SiteAccounts.{IsFound}
+use Rattle.sqs_laws.proofs.Terms.{and-false, bit, eq-eqb, id_of, IsFound, IsRunOf, Key, Message, MessageId, nat_tests, ne_eqb, numbered, Queue, Row, Run, Scenario}
 use Rattle.sqs_laws.specs.Laws.{TheEnd}
 use Rattle.sqs_laws.specs.Words.{EachRow, comes, comings, has_left, is_gone, leaves, may_follow}
 use Rattle.sqs_laws.proofs.Calls.{found_old}

@@ -1,19 +1,9 @@
 -- FIFO: the messages of a group are received in the order in which they came, and none while another one is in flight.
-use Rattle.std.specs.Prelude.{Bool, List, None, Option, Some, false, is_none, length, slice_get, true, ℕ, ◌&&◌, ◌-◌, ◌<◌, ◌≡◌}
+use Rattle.std.specs.Prelude.{List, None, Option, Some, false, is_none, length, slice_get, true, ℕ, ◌&&◌, ◌-◌, ◌<◌, ◌≡◌}
 use Rattle.std.proofs.Common.{ap, arith, refl, subst, sym, true≢false, ◌∙◌}
-use Rattle.std.proofs.lemmas.Bool.{and_parts}
-use Rattle.sim_clock.specs.declared.key.Key.{Key}
-use Rattle.sqs_message.specs.declared.ids.MessageId.{MessageId}
-use Rattle.sqs_message.specs.declared.message.Message.{Message}
+use Rattle.sqs_laws.proofs.Terms.{ActorSettings, and_parts, id_of, IsRunOf, IsSoundScenario, Key, Message, MessageId, numbered, Queue, Row, Run, same_group, same_text_decides, Scenario}
 use Rattle.md5.specs.Md5.{md5}
 use Rattle.sqs_message.specs.declared.row.Detail.TheVariants as details
-use Rattle.sqs_model.specs.declared.agents.ActorSettings.{ActorSettings}
-use Rattle.sqs_message.specs.declared.row.Row.{Row}
-use Rattle.sqs_model.specs.Progress.{IsSoundScenario}
-use Rattle.sqs_model.specs.Queue.{Queue, id_of, numbered, same_group}
-use Rattle.sqs_model.specs.Run.{IsRunOf, Run}
-use Rattle.sqs_model.specs.Scenario.{Scenario}
-use Rattle.sqs_model.specs.Texts.{same_text_decides}
 use Rattle.sqs_laws.specs.Sends.{Given, GivesAs, IsByCall, IsSender}
 use Rattle.sqs_laws.specs.Laws.{FifoOrder, Sends, fifo_at, is_fifo, HasGroup}
 use Rattle.sqs_laws.specs.Words.{EachRow, flight, flying, has_left, accepted_by}
@@ -23,7 +13,7 @@ use Rattle.sqs_laws.proofs.End as end
 use Rattle.sqs_laws.proofs.Flights.{flies_of, flights, rests_of}
 use Rattle.sqs_laws.proofs.Moves.{IsNext, IsBehind, IsStocked, Move, Receives, as_told, IsTraced}
 use Rattle.sqs_laws.proofs.Worlds.{RowLaw, both, every_row_by, traces}
-use Rattle.sqs_laws.proofs.Traces.{traced_of}
+use Rattle.sqs_laws.proofs.Traces.{fifo_there, traced_of}
 
 module _ (s : Scenario) (sound : IsSoundScenario s) where
   abbrev told : RowLaw s
@@ -39,9 +29,7 @@ module _ (s : Scenario) (sound : IsSoundScenario s) where
 
   module _ (rows : List Row) (key : Key) (q : Queue) (r : Row) (p : Queue) (d : Move key q r p) (o : IsBehind s rows q r p) (k : IsStocked q) (h : told.Holds rows q) where
     fifo : fifo_at s r ≡ true → is_fifo q.settings.kind ≡ true
-    fifo e =
-        let own : slice_get s.queues r.queue ≡ Some q.settings = ap (λ n. slice_get s.queues n) d.at_site ∙ h.0.0 in
-        sym (ap (λ x. elim x as (λ _. Bool) [ None ↦ false | Some y ↦ is_fifo y.kind ]) own) ∙ e
+    fifo e = sym (fifo_there s r q d.at_site h.0.0) ∙ e
 
     group_is : is_fifo q.settings.kind ≡ true → (i : ℕ) (m : Message) (g : List ℕ) → numbered i q.records ≡ Some m → HasGroup s rows (id_of q i) g → m.group ≡ Some g
     group_is f i m g e x =

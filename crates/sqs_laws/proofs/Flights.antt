@@ -1,11 +1,7 @@
 -- Which messages are in flight, by the rows so far.
 use Rattle.std.specs.Prelude.{Bool, List, None, Some, [], false, is_some, nat_lt, true, ℕ, ◌++◌, ◌∷◌, ◌≡◌, ◌||◌}
 use Rattle.std.proofs.Common.{ap, refl, sym, ◌∙◌}
-use Rattle.sqs_message.specs.declared.ids.MessageId.{MessageId}
-use Rattle.sqs_message.specs.declared.message.Message.{Message}
-use Rattle.sqs_message.specs.declared.row.Row.{Row}
-use Rattle.sqs_model.specs.Queue.{Queue, id_of, is_in_flight, numbered}
-use Rattle.sqs_model.specs.Scenario.{Scenario}
+use Rattle.sqs_laws.proofs.Terms.{id_of, is_in_flight, Message, MessageId, numbered, Queue, Row, Scenario}
 use Rattle.sqs_laws.specs.Words.{changed, flight, flying, is_release, leaves, names}
 use Rattle.sqs_laws.specs.Words as words
 use Rattle.sqs_laws.proofs.Moves.{waits_rest, Tells}

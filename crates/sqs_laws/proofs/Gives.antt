@@ -1,42 +1,20 @@
 -- An actor gives to what it sends the group that the settings tell.
 use Rattle.std.specs.Prelude.{All, List, Option, Some, [], drop, find, length, nat_lt, slice_get, suc, zero, ℕ, ◌+◌, ◌-◌, ◌<◌, ◌==◌, ◌∷◌, ◌≡◌, ◌≤◌, true, nat_le}
 use Rattle.std.proofs.Common.{ap, arith, inl, inr, refl, subst, sym, ◌∙◌}
-use Rattle.std.proofs.lemmas.Bool.{cases_order, eq-eqb, eqb-true}
-use Rattle.std.proofs.lemmas.Option.{slice_get_within}
-use Rattle.sim_clock.specs.declared.key.Class.TheVariants.{Wake}
-use Rattle.sim_clock.specs.declared.key.Key.{Key}
-use Rattle.sim_clock.specs.Firsts.{changed}
+use Rattle.sqs_laws.proofs.Terms.{Act, act_of, Actor, actor_numbered, ActorSettings, all_changed, Answer, Ascends, ascends_changed, cases_order, changed, Consumer, Core, drawn_time, Draws, dues, either, eq-eqb, eqb-true, find_all, find_changed, find_picked, first_at, first_wake, found_by_number, group_of, has_come, id_given, In, is_actor, IsSoundDistribution, IsSoundRole, Key, nat_tests, next_as, of_site, opening_actor, opening_draws, Producer, producer_sends, Role, Scaler, Scenario, Script, script_wake, ScriptCall, Site, slice_get_within, Standing, Wake, wakes_after, wakes_first, WakesFor, woken}
 use Rattle.sqs_message.specs.declared.calls.Call.{Call}
 use Rattle.sqs_message.specs.declared.calls.Call.TheVariants as calls
-use Rattle.sqs_message.specs.declared.calls.ScriptCall.{ScriptCall}
-use Rattle.sqs_model.specs.declared.acts.Act.{Act}
 use Rattle.sqs_model.specs.declared.acts.Act.TheVariants as acts
-use Rattle.sqs_model.specs.declared.acts.Answer.{Answer}
 use Rattle.sqs_model.specs.declared.acts.Answer.TheVariants as told_by
-use Rattle.sqs_model.specs.declared.agents.ActorSettings.{ActorSettings}
 use Rattle.sqs_model.specs.declared.agents.ProducerSettings.{ProducerSettings}
-use Rattle.sqs_model.specs.declared.agents.Role.{Role}
-use Rattle.sqs_model.specs.declared.acts.Standing.{Standing}
-use Rattle.sqs_model.specs.declared.agents.Role.TheVariants.{Consumer, Producer, Scaler, Script}
 use Rattle.std.specs.Fmt.{decimal}
 use Rattle.sqs_message.specs.Bodies.{filled}
-use Rattle.sqs_model.specs.Actor.{Actor, id_given, act_of, first_at, group_of, has_come, next, next_as, producer_sends, script_wake, wakes_after, woken}
-use Rattle.sqs_model.specs.Draw.{Draws, drawn_time}
-use Rattle.sqs_model.specs.Dues.{dues}
-use Rattle.sqs_model.specs.Progress.{Ascends, IsSoundDistribution, IsSoundRole, WakesFor}
-use Rattle.sqs_model.specs.Scenario.{Scenario, first_wake, opening_actor, opening_draws}
-use Rattle.sqs_model.specs.Site.{Core, Site, actor_numbered, is_actor}
+use Rattle.sqs_model.specs.Actor.{next}
 use Rattle.sqs_model.proofs.ActorMoves.{drop_next}
-use Rattle.sqs_model.proofs.Branches.{either}
-use Rattle.sqs_model.proofs.Counts.{all_changed, ascends_changed, find_all, find_changed, find_picked}
 use Rattle.sqs_model.proofs.Decisions.{next_decides}
-use Rattle.sqs_model.proofs.EachDue.{of_site}
 use Rattle.sqs_model.proofs.Effects.{time_least}
-use Rattle.sqs_model.proofs.Members.{In, found_by_number}
-use Rattle.sqs_model.proofs.Opening.{wakes_first}
 use Rattle.sqs_laws.specs.Sends.{Given, GivesAs, GivesAt, IsSender, after_gap, given_in, message_given, next_sending, sending}
 use Rattle.sqs_laws.specs.Laws.{is_actor_of}
-use Rattle.std.proofs.lemmas.Bool.Decides.{nat_tests}
 use Rattle.sqs_laws.proofs.Naming.{at_place}
 
 -- a script waits for its next call, and a producer for its next message
@@ -77,28 +55,37 @@ abbrev pub IsOwnCall : Role → ℕ → ℕ → ℕ → Option ℕ → Type 0
 IsOwnCall (Script cs) at max wait timeout = (c : ScriptCall) × In cs c × (c.at ≡ at) × (c.call ≡ calls.Receive max wait timeout)
 IsOwnCall role at max wait timeout = Unit {0}
 
+-- a change is a call of a script of this moment, if it is a script's
+abbrev pub IsOwnChange : Role → ℕ → List ℕ → ℕ → Type 0
+IsOwnChange (Script cs) at text seconds = (c : ScriptCall) × In cs c × (c.at ≡ at) × (c.call ≡ calls.Change text seconds)
+IsOwnChange role at text seconds = Unit {0}
+
 -- what an act says of groups: what is sent has the group that the settings tell
 abbrev Tells : ℕ → Role → ℕ → Act → Actor → Type 0
 Tells seed role at (acts.Send body delay group id) b =
     (IsSender role → GivesAt (opening_draws seed b.number) role at (record { body = body; delay = delay; group = group; id = id }))
     × (IsSoundRole role → (x : Given) → GivesAt (opening_draws seed b.number) role at x → record { body = body; delay = delay; group = group; id = id } ≡ x) × HasSent seed role at b
 Tells seed role at (acts.Receive max wait timeout) b = IsNoProducer role × IsOwnCall role at max wait timeout
+Tells seed role at (acts.Change text timeout) b = IsNoProducer role × IsOwnChange role at text timeout
+Tells seed role at (acts.Prolong text timeout) b = IsNoProducer role × ((own : List ℕ) (seconds : ℕ) → IsOwnChange role at own seconds)
 Tells seed role at acts.Nothing b = Unit {0}
 Tells seed role at act b = IsNoProducer role
 
-untold : (seed : ℕ) (role : Role) (at : ℕ) (x : Act) (b : Actor) → IsNoProducer role → ((max wait : ℕ) (timeout : Option ℕ) → IsOwnCall role at max wait timeout) → (IsSender role → ⊥) → ((d : Draws) (g : Given) → GivesAt d role at g → ⊥) → Tells seed role at x b
-untold seed role at (acts.Send body delay group id) b n o i f = (λ s. absurd (i s), λ s g h. absurd (f (opening_draws seed b.number) g h), not_sent seed role at b n)
-untold seed role at (acts.Receive max wait timeout) b n o i f = (n, o max wait timeout)
-untold seed role at acts.Nothing b n o i f = tt
-untold seed role at x b n o i f = n
+untold : (seed : ℕ) (role : Role) (at : ℕ) (x : Act) (b : Actor) → IsNoProducer role → ((max wait : ℕ) (timeout : Option ℕ) → IsOwnCall role at max wait timeout) → ((text : List ℕ) (timeout : ℕ) → IsOwnChange role at text timeout) → (IsSender role → ⊥) → ((d : Draws) (g : Given) → GivesAt d role at g → ⊥) → Tells seed role at x b
+untold seed role at (acts.Send body delay group id) b n o k i f = (λ s. absurd (i s), λ s g h. absurd (f (opening_draws seed b.number) g h), not_sent seed role at b n)
+untold seed role at (acts.Receive max wait timeout) b n o k i f = (n, o max wait timeout)
+untold seed role at (acts.Change text timeout) b n o k i f = (n, k text timeout)
+untold seed role at (acts.Prolong text timeout) b n o k i f = (n, k)
+untold seed role at acts.Nothing b n o k i f = tt
+untold seed role at x b n o k i f = n
 
-called : (seed : ℕ) (cs : List ScriptCall) (at : ℕ) (c : Call) (b : Actor) → ((max wait : ℕ) (timeout : Option ℕ) → c ≡ calls.Receive max wait timeout → IsOwnCall (Script cs) at max wait timeout) → ((x : Given) → given_in c ≡ Some x → GivesAt (opening_draws seed b.number) (Script cs) at x) → (IsSoundRole (Script cs) → (x : Given) → GivesAt (opening_draws seed b.number) (Script cs) at x → given_in c ≡ Some x) → Tells seed (Script cs) at (act_of c) b
-called seed cs at (calls.Send body delay group id) b o v e = (λ s. v (record { body = body; delay = delay; group = group; id = id }) refl, λ s x y. let is : Some (record { body = body; delay = delay; group = group; id = id }) ≡ Some x = e s x y in cc, tt)
-called seed cs at (calls.Receive max wait timeout) b o v e = (tt, o max wait timeout refl)
-called seed cs at (calls.Delete receipt) b o v e = tt
-called seed cs at (calls.Change receipt timeout) b o v e = tt
-called seed cs at (calls.Start task) b o v e = tt
-called seed cs at (calls.Cancel task) b o v e = tt
+called : (seed : ℕ) (cs : List ScriptCall) (at : ℕ) (c : Call) (b : Actor) → ((max wait : ℕ) (timeout : Option ℕ) → c ≡ calls.Receive max wait timeout → IsOwnCall (Script cs) at max wait timeout) → ((text : List ℕ) (timeout : ℕ) → c ≡ calls.Change text timeout → IsOwnChange (Script cs) at text timeout) → ((x : Given) → given_in c ≡ Some x → GivesAt (opening_draws seed b.number) (Script cs) at x) → (IsSoundRole (Script cs) → (x : Given) → GivesAt (opening_draws seed b.number) (Script cs) at x → given_in c ≡ Some x) → Tells seed (Script cs) at (act_of c) b
+called seed cs at (calls.Send body delay group id) b o k v e = (λ s. v (record { body = body; delay = delay; group = group; id = id }) refl, λ s x y. let is : Some (record { body = body; delay = delay; group = group; id = id }) ≡ Some x = e s x y in cc, tt)
+called seed cs at (calls.Receive max wait timeout) b o k v e = (tt, o max wait timeout refl)
+called seed cs at (calls.Delete receipt) b o k v e = tt
+called seed cs at (calls.Change receipt timeout) b o k v e = (tt, k receipt timeout refl)
+called seed cs at (calls.Start task) b o k v e = tt
+called seed cs at (calls.Cancel task) b o k v e = tt
 
 -- a script's next call is its only one at its moment
 drop_first : (cs : List ScriptCall) (n : ℕ) (c : ScriptCall) (rest : List ScriptCall) → drop n cs ≡ c ∷ rest → In cs c
@@ -118,7 +105,7 @@ script_gives : (seed : ℕ) (a : Actor) (cs : List ScriptCall) (at : ℕ) (rest 
 script_gives seed a cs at [] e w = tt
 script_gives seed a cs at (c ∷ rest) e w =
     let now : c.at ≡ at = cc in
-    called seed cs at c.call (script_wake a (c ∷ rest)).1 (λ max wait timeout y. (c, drop_first cs a.wakes c rest e, now, y)) (λ x y. (c, drop_first cs a.wakes c rest e, now, y))
+    called seed cs at c.call (script_wake a (c ∷ rest)).1 (λ max wait timeout y. (c, drop_first cs a.wakes c rest e, now, y)) (λ text timeout y. (c, drop_first cs a.wakes c rest e, now, y)) (λ x y. (c, drop_first cs a.wakes c rest e, now, y))
     (λ s g x. let is : x.0 ≡ c = only_then cs c x.0 s (drop_first cs a.wakes c rest e) x.1 (x.2 ∙ sym now) in ap (λ (y : ScriptCall). given_in y.call) (sym is) ∙ x.3)
 
 script_wakes : (a : Actor) (cs rest : List ScriptCall) → drop a.wakes cs ≡ rest → WakesFor (Script cs) (script_wake a rest).1
@@ -192,8 +179,8 @@ as_gives seed (Producer p) a now (told_by.Wake st) f h =
     (sends_gives seed a p now (group_of p.groups a.wakes a.draws) refl (f now (h st refl)))
 as_gives seed (Producer p) a now told_by.Other f h = either (λ (x : Act × Actor). Tells seed (Producer p) now x.0 x.1) (nat_lt a.wakes p.count) (acts.Nothing, wakes_after a now (drawn_time p.gap a.draws)) (acts.Nothing, a) tt tt
 as_gives seed (Producer p) a now w f h = tt
-as_gives seed (Consumer c) a now w f h = untold seed (Consumer c) now (next_as (Consumer c) a now w).0 (next_as (Consumer c) a now w).1 tt (λ _ _ _. tt) (λ h. h) (λ d g e. e)
-as_gives seed (Scaler s) a now w f h = untold seed (Scaler s) now (next_as (Scaler s) a now w).0 (next_as (Scaler s) a now w).1 tt (λ _ _ _. tt) (λ h. h) (λ d g e. e)
+as_gives seed (Consumer c) a now w f h = untold seed (Consumer c) now (next_as (Consumer c) a now w).0 (next_as (Consumer c) a now w).1 tt (λ _ _ _. tt) (λ _ _. tt) (λ h. h) (λ d g e. e)
+as_gives seed (Scaler s) a now w f h = untold seed (Scaler s) now (next_as (Scaler s) a now w).0 (next_as (Scaler s) a now w).1 tt (λ _ _ _. tt) (λ _ _. tt) (λ h. h) (λ d g e. e)
 
 as_waits : (seed : ℕ) (role : Role) (a : Actor) (now : ℕ) (w : Answer) → Waits seed role a → (w ≡ told_by.Other → HasSent seed role now a) → Waits seed role (next_as role a now w).1
 as_waits seed (Script cs) a now (told_by.Wake st) f h = script_wakes a cs (drop a.wakes cs) refl
@@ -258,6 +245,8 @@ Gives u at agent given =
 abbrev pub MayGive : Scenario → ℕ → Actor → Act → Type 0
 MayGive u at a (acts.Send body delay group id) = Gives u at a.number (record { body = body; delay = delay; group = group; id = id }) × HasSent u.seed a.settings.role at a
 MayGive u at a (acts.Receive max wait timeout) = IsNoProducer a.settings.role × IsOwnCall a.settings.role at max wait timeout
+MayGive u at a (acts.Change text timeout) = IsNoProducer a.settings.role × (slice_get u.actors (a.number - length u.queues) ≡ Some a.settings) × IsOwnChange a.settings.role at text timeout
+MayGive u at a (acts.Prolong text timeout) = IsNoProducer a.settings.role × (slice_get u.actors (a.number - length u.queues) ≡ Some a.settings) × ((own : List ℕ) (seconds : ℕ) → IsOwnChange a.settings.role at own seconds)
 MayGive u at a acts.Nothing = Unit {0}
 MayGive u at a act = IsNoProducer a.settings.role
 
@@ -275,8 +264,8 @@ may_give u at a (acts.Send body delay group id) f h = (
 )
 may_give u at a (acts.Receive max wait timeout) f h = h
 may_give u at a (acts.Delete text) f h = h
-may_give u at a (acts.Change text timeout) f h = h
-may_give u at a (acts.Prolong text timeout) f h = h
+may_give u at a (acts.Change text timeout) f h = (h.0, f, h.1)
+may_give u at a (acts.Prolong text timeout) f h = (h.0, f, h.1)
 may_give u at a (acts.Start task) f h = h
 may_give u at a (acts.Cancel task) f h = h
 may_give u at a (acts.Serve id receipt failed forward) f h = h

@@ -1,33 +1,14 @@
 -- The rows of a receive are a chain of single moves: all messages are received, and with a timeout of 0 all then come back.
-use Rattle.std.specs.List.{list_any}
+use Rattle.sqs_laws.proofs.Terms.{All-cons, All-head, All-nil, All-tail, All-take, all_came_back, and_parts, and_then, Apart, append_assoc, available, available_at, Core, Effect, eqb-false, eqb-true, Fifo, find_all, first_apart, first_stand, firsts, give, give_most, given, Got, got_of, got_row, has_host, has_number, is_delayed, is_in_flight, is_open, is_visible, Key, Kind, length-take, list_any, Message, numbered, open_from, Queue, received, room, Row, same_group, Scenario, Stand, Standard, timeout_of, to_give, with_change, with_queue}
 use Rattle.std.specs.Prelude.{All, Bool, List, None, Option, Some, [], cond, false, filter, get_or, if◌then◌else◌, length, map, min, not, true, ℕ, ◌&&◌, ◌%◌, ◌++◌, ◌<◌, ◌==◌, ◌∷◌, ◌≡◌, ◌≤◌, ◌+◌, slice_get}
 use Rattle.std.proofs.Common.{ap, arith, refl, subst, sym, ◌∙◌}
-use Rattle.std.proofs.lemmas.Bool.{and_parts, eqb-false, eqb-true}
-use Rattle.std.proofs.lemmas.List.{length-take, append_assoc}
-use Rattle.std.proofs.lemmas.List.Elements.{All-cons, All-head, All-nil, All-tail, All-take}
-use Rattle.sim_clock.specs.declared.key.Key.{Key}
-use Rattle.sqs_message.specs.declared.message.Message.{Message}
-use Rattle.sqs_message.specs.declared.row.Row.{Row}
-use Rattle.sqs_redrive.specs.declared.answers.Got.{Got}
-use Rattle.sqs_redrive.specs.declared.settings.Kind.{Kind}
-use Rattle.sqs_redrive.specs.declared.settings.Kind.TheVariants.{Fifo, Standard}
-use Rattle.sqs_model.specs.Acts.{all_came_back, given, got_row}
-use Rattle.sqs_model.specs.Available.{available, available_at, firsts, has_host, is_open, open_from}
 use Rattle.sqs_model.specs.Giving.{all_got, all_left, all_received, all_released, given_then_returned}
-use Rattle.sim_clock.specs.Firsts.{kept_when}
-use Rattle.sqs_model.specs.Queue.{Queue, has_number, is_delayed, is_in_flight, is_visible, numbered, room, same_group, with_change}
-use Rattle.sqs_model.specs.Receive.{give, give_most, got_of, received, timeout_of, to_give}
-use Rattle.sqs_model.specs.Scenario.{Scenario}
-use Rattle.sqs_model.specs.Site.{Core, Effect, and_then, with_queue}
-use Rattle.sqs_model.proofs.Chosen.{Stand, first_apart, first_stand}
-use Rattle.sqs_model.proofs.Counts.{find_all}
 use Rattle.sqs_model.proofs.Giving.{gives}
 use Rattle.sqs_model.proofs.Grouped.{all_groups}
-use Rattle.sqs_model.proofs.Numbered.{Apart}
 use Rattle.sqs_model.proofs.QueueAccounts.{same_timeout}
 use Rattle.sqs_laws.proofs.Calls.{AreNext, AreThere, AreToldOf, IsDueNow, Told, Returns, all_told, back_chain, back_got, other_changed, own_changed, received_chain, received_stand, told_got, told_kept}
 use Rattle.sqs_laws.proofs.Next.{all_next}
-use Rattle.sqs_laws.proofs.Turns.{available_turns}
+use Rattle.sqs_laws.proofs.Turns.{available_turns, kept_by}
 use Rattle.sqs_laws.specs.Sends.{milliseconds_or}
 use Rattle.sqs_laws.proofs.Moves.{FitsSender, IsAskedFor, Chain, IsStocked, Keeps, actors_of, chain_append, chain_keeps, AreTraced}
 use Rattle.sqs_laws.proofs.Traces.{chain_traces}
@@ -51,17 +32,13 @@ known_told site arrivals [] (g ∷ gs) t h = absurd t
 known_told site arrivals (m ∷ ms) [] t h = absurd t
 
 -- what may be given is visible
-visible_kept : (b : Bool) (m : Message) (ms : List Message) → (b ≡ true → is_visible m ≡ true) → All (λ x. is_visible x ≡ true) ms → All (λ x. is_visible x ≡ true) (kept_when b m ms)
-visible_kept true m ms v h = All-cons (λ x. is_visible x ≡ true) m ms (v refl) h
-visible_kept false m ms v h = h
-
 visible_open : (all earlier ms : List Message) → All (λ x. is_visible x ≡ true) (open_from all earlier ms)
 visible_open all earlier [] = All-nil (λ x. is_visible x ≡ true)
 visible_open all earlier (m ∷ ms) =
     let x : Bool = is_visible m in
     let y : Bool = not (list_any (λ z. same_group m z && is_in_flight z) all) in
     let z : Bool = not (list_any (λ z. same_group m z && is_delayed z) earlier) in
-    visible_kept (is_open all earlier m) m (open_from all (m ∷ earlier) ms) (λ e. (and_parts x y (and_parts (x && y) z e).0).0) (visible_open all (m ∷ earlier) ms)
+    kept_by (λ x. is_visible x ≡ true) (is_open all earlier m) m (open_from all (m ∷ earlier) ms) (λ e. (and_parts x y (and_parts (x && y) z e).0).0) (visible_open all (m ∷ earlier) ms)
 
 visible_filter : (p : Message → Bool) (ms : List Message) → All (λ x. is_visible x ≡ true) (filter (λ m. is_visible m && p m) ms)
 visible_filter p [] = All-nil (λ x. is_visible x ≡ true)

@@ -3,34 +3,39 @@ use Rattle.std.specs.Prelude.{Bool, List, None, Option, Some, [], drop, false, l
 use Rattle.std.proofs.Common.{arith, refl}
 use Rattle.sqs_message.specs.declared.calls.Call.{Call}
 use Rattle.sqs_message.specs.declared.calls.Call.TheVariants as calls
-use Rattle.sqs_message.specs.declared.calls.ScriptCall.{ScriptCall}
-use Rattle.sqs_redrive.specs.declared.answers.Got.{Got}
-use Rattle.sqs_model.specs.declared.acts.Act.{Act}
+use Rattle.sqs_laws.proofs.Terms.{Act, act_of, Actor, after_failure, Answer, Asked, Beat, begins_by, begins_next, changed_at, Consumer, consumer_told, consumer_wake, copies_after, copies_by, copy_rests, copy_wake, drawn_time, Draws, either, Ended, ends_by, ends_service, ends_well, ends_whole, Failed, Gathered, gathers_on, goes_on, Got, got_more, has_come, has_failed, has_forwarded, has_nothing, is_gathered, is_gathering, is_parked, is_wanted, LastAct, next_as, outcome, Producer, producer_sent, producer_wake, read_before, reads_or_scales, receipt_text, rest_after, rests, Role, Scaler, scales, Script, script_wake, ScriptCall, sent_one, Served, served_all, serves, serves_on, service_of, serving, settles, Standing, wanted_for, woken}
 use Rattle.sqs_model.specs.declared.acts.Act.TheVariants as acts
-use Rattle.sqs_model.specs.declared.acts.Answer.{Answer}
 use Rattle.sqs_model.specs.declared.acts.Answer.TheVariants as told_by
 use Rattle.sqs_model.specs.declared.agents.ConsumerSettings.{ConsumerSettings}
 use Rattle.sqs_model.specs.declared.agents.Forwarding.{Forwarding}
 use Rattle.sqs_model.specs.declared.agents.ProducerSettings.{ProducerSettings}
-use Rattle.sqs_model.specs.declared.agents.Role.{Role}
-use Rattle.sqs_model.specs.declared.acts.Standing.{Standing}
 use Rattle.sqs_model.specs.declared.agents.ScalerSettings.{ScalerSettings}
 use Rattle.sqs_model.specs.declared.agents.Scaling.{Scaling}
-use Rattle.sqs_model.specs.declared.agents.Role.TheVariants.{Consumer, Producer, Scaler, Script}
 use Rattle.sqs_model.specs.declared.agents.Serving.{Serving}
 use Rattle.sqs_model.specs.declared.agents.Serving.TheVariants.{Each, Once}
-use Rattle.sqs_model.specs.Actor.{Actor, Asked, Beat, Ended, Failed, Gathered, LastAct, Served, act_of, after_failure, begins_by, begins_next, changed_at, consumer_told, consumer_wake, copies_after, copies_by, copy_rests, copy_wake, ends_by, ends_service, ends_well, ends_whole, gathers_on, goes_on, got_more, has_nothing, is_gathered, is_gathering, is_parked, is_wanted, woken, has_come, has_failed, next, next_as, outcome, producer_sent, producer_wake, read_before, reads_or_scales, rest_after, rests, scales, script_wake, served_all, serves, serves_on, service_of, serving, settles, wanted_for, has_forwarded, sent_one}
-use Rattle.sqs_model.specs.Draw.{Draws, drawn_time}
-use Rattle.sqs_model.proofs.Branches.{either}
+use Rattle.sqs_model.specs.Actor.{backoff_at, backoff_drawn, next}
 use Rattle.sqs_redrive.specs.declared.settings.Latency.{Latency}
+use Rattle.sqs_laws.specs.Sends.{BacksOff}
 use Rattle.sqs_laws.proofs.Giving.{AreKnown, IsKnown}
 
 -- the timeouts that an actor of a role asks for, but a script
-abbrev pub AsksOwn : Role → Option ℕ → Type 0
-AsksOwn (Script script) timeout = Unit {0}
-AsksOwn (Producer p) timeout = ⊥
-AsksOwn (Consumer c) timeout = timeout ≡ c.timeout
-AsksOwn (Scaler s) timeout = ⊥
+abbrev pub AsksOwn : Role → Act → Type 0
+AsksOwn (Script script) x = Unit {0}
+AsksOwn (Producer p) x = ⊥
+AsksOwn (Consumer c) (acts.Receive max wait timeout) = timeout ≡ c.timeout
+AsksOwn (Consumer c) (acts.Change text timeout) = BacksOff c text timeout
+AsksOwn (Consumer c) (acts.Prolong text timeout) = timeout ≡ c.timeout
+AsksOwn (Consumer c) x = Unit {0}
+AsksOwn (Scaler s) x = ⊥
+
+-- a consumer may receive, prolong a timeout and give another one so
+record MayAsk (Own : Act → Type 0) (c : ConsumerSettings) : Type 0 where
+  pub receives : (max wait : ℕ) → Own (acts.Receive max wait c.timeout)
+  pub prolongs : (text : List ℕ) → Own (acts.Prolong text c.timeout)
+  pub backs_off : (g : Got) (d : Draws) → Own (acts.Change (receipt_text g.receipt) (backoff_drawn c.jitter (backoff_at c.backoff g.receipt.count) d).0)
+
+may_ask : (c : ConsumerSettings) → MayAsk (AsksOwn (Consumer c)) c
+may_ask c = record { receives = λ max wait. refl; prolongs = λ text. refl; backs_off = λ g d. record { receipt = g.receipt; shown = refl; draws = d; timeout = refl } }
 
 module _ (site arrivals : ℕ) where
   -- messages of which an actor was told
@@ -40,16 +45,18 @@ module _ (site arrivals : ℕ) where
     pub failed : AreKnown site arrivals a.failed
 
   -- an act that serves no other message, and receives with such a timeout
-  abbrev pub ServesKnown : (Option ℕ → Type 0) → Act → Type 0
+  abbrev pub ServesKnown : (Act → Type 0) → Act → Type 0
   ServesKnown Own (acts.Serve id receipt failed forwards) = (id.site ≡ site) × (id.number < arrivals)
-  ServesKnown Own (acts.Receive max wait timeout) = Own timeout
+  ServesKnown Own (acts.Receive max wait timeout) = Own (acts.Receive max wait timeout)
+  ServesKnown Own (acts.Change text timeout) = Own (acts.Change text timeout)
+  ServesKnown Own (acts.Prolong text timeout) = Own (acts.Prolong text timeout)
   ServesKnown Own act = Unit {0}
 
   abbrev pub HearsOfKnown : Answer → Type 0
   HearsOfKnown (told_by.Got gots) = AreKnown site arrivals gots
   HearsOfKnown answer = Unit {0}
 
-  pub record Acts (Own : Option ℕ → Type 0) (x : Act × Actor) : Type 0 where
+  pub record Acts (Own : Act → Type 0) (x : Act × Actor) : Type 0 where
     pub informed : IsInformed x.1
     pub serves : ServesKnown Own x.0
 
@@ -57,22 +64,22 @@ module _ (site arrivals : ℕ) where
   known_append [] hs k l = l
   known_append (g ∷ gs) hs k l = (k.0, known_append gs hs k.1 l)
 
-  module _ (Own : Option ℕ → Type 0) (now : ℕ) where
+  module _ (Own : Act → Type 0) (now : ℕ) where
     idles : (a : Actor) → IsInformed a → Acts Own (acts.Nothing, a)
     idles a h = record { informed = h; serves = tt }
 
     with_lists : (a : Actor) → AreKnown site arrivals a.held → AreKnown site arrivals a.done → AreKnown site arrivals a.failed → IsInformed a
     with_lists a h d f = record { held = h; done = d; failed = f }
 
-    call_serves : ((timeout : Option ℕ) → Own timeout) → (c : Call) → ServesKnown Own (act_of c)
+    call_serves : ((x : Act) → Own x) → (c : Call) → ServesKnown Own (act_of c)
     call_serves any (calls.Send body delay group id) = tt
-    call_serves any (calls.Receive max wait timeout) = any timeout
+    call_serves any (calls.Receive max wait timeout) = any (acts.Receive max wait timeout)
     call_serves any (calls.Delete receipt) = tt
-    call_serves any (calls.Change receipt timeout) = tt
+    call_serves any (calls.Change receipt timeout) = any (acts.Change receipt timeout)
     call_serves any (calls.Start task) = tt
     call_serves any (calls.Cancel task) = tt
 
-    script_acts : ((timeout : Option ℕ) → Own timeout) → (a : Actor) (cs : List ScriptCall) → IsInformed a → Acts Own (script_wake a cs)
+    script_acts : ((x : Act) → Own x) → (a : Actor) (cs : List ScriptCall) → IsInformed a → Acts Own (script_wake a cs)
     script_acts any a [] h = record { informed = with_lists _ h.held h.done h.failed; serves = tt }
     script_acts any a (c ∷ cs) h = record { informed = with_lists _ h.held h.done h.failed; serves = call_serves any c.call }
 
@@ -120,14 +127,14 @@ module _ (site arrivals : ℕ) where
     outcome_acts : (a : Actor) (c : ConsumerSettings) (g : Got) (outcome : Bool × Draws) → IsInformed a → IsKnown site arrivals g → Acts Own (ends_by a c now g outcome)
     outcome_acts a c g (failed, draws) h k = ends_acts (record a { draws = draws }) c g failed (with_lists _ h.held h.done h.failed) k
 
-    rests_acts : (a : Actor) (c : ConsumerSettings) (failed done : List Got) → Own c.timeout → IsInformed a → AreKnown site arrivals failed → AreKnown site arrivals done → Acts Own (rests a c now failed done)
-    rests_acts a c (g ∷ gs) done o h f d = record { informed = with_lists _ h.held h.done f.1; serves = tt }
+    rests_acts : (a : Actor) (c : ConsumerSettings) (failed done : List Got) → MayAsk Own c → IsInformed a → AreKnown site arrivals failed → AreKnown site arrivals done → Acts Own (rests a c now failed done)
+    rests_acts a c (g ∷ gs) done o h f d = record { informed = with_lists _ h.held h.done f.1; serves = o.backs_off g a.draws }
     rests_acts a c [] (g ∷ gs) o h f d = settles_acts a c g gs h d.0 d.1
-    rests_acts a c [] [] o h f d = either (Acts Own) (has_come c.stop now) _ _ (idles a h) (record { informed = with_lists _ h.held h.done h.failed; serves = o })
+    rests_acts a c [] [] o h f d = either (Acts Own) (has_come c.stop now) _ _ (idles a h) (record { informed = with_lists _ h.held h.done h.failed; serves = o.receives c.batch c.wait })
 
-    serves_on_acts : (a : Actor) (c : ConsumerSettings) (g : Got) (gs : List Got) → IsInformed a → AreKnown site arrivals (g ∷ gs) → Acts Own (serves_on a c now g gs)
-    serves_on_acts a c g gs h k =
-        either (Acts Own) (goes_on c.heartbeat a.ends now) _ _ (record { informed = with_lists _ h.held h.done h.failed; serves = tt })
+    serves_on_acts : (a : Actor) (c : ConsumerSettings) (g : Got) (gs : List Got) → MayAsk Own c → IsInformed a → AreKnown site arrivals (g ∷ gs) → Acts Own (serves_on a c now g gs)
+    serves_on_acts a c g gs o h k =
+        either (Acts Own) (goes_on c.heartbeat a.ends now) _ _ (record { informed = with_lists _ h.held h.done h.failed; serves = o.prolongs (receipt_text g.receipt) })
         (outcome_acts (record a { held = gs }) c g (outcome c.fail_service (record a { held = g ∷ gs }) c now) (with_lists _ k.1 h.done h.failed) k.0)
 
     begins_acts : (failed : Option ℕ) (a : Actor) (c : ConsumerSettings) (drawn : ℕ × Draws) → IsInformed a → Acts Own (acts.Nothing, begins_by failed a c now drawn)
@@ -140,9 +147,9 @@ module _ (site arrivals : ℕ) where
         (begins_acts c.fail_service (record a { last_act = Ended }) c (service_of c.serving (length a.held) (drawn_time c.service a.draws)) (with_lists _ h.held h.done h.failed))
         (record { informed = with_lists _ h.held h.done h.failed; serves = tt })
 
-    wake_acts : (a : Actor) (c : ConsumerSettings) (gs : List Got) → Own c.timeout → IsInformed a → AreKnown site arrivals gs → Acts Own (consumer_wake a c now gs)
+    wake_acts : (a : Actor) (c : ConsumerSettings) (gs : List Got) → MayAsk Own c → IsInformed a → AreKnown site arrivals gs → Acts Own (consumer_wake a c now gs)
     wake_acts a c [] o h k = rests_acts a c a.failed a.done o h h.failed h.done
-    wake_acts a c (g ∷ gs) o h k = either (Acts Own) (is_gathering a.last_act) _ _ (record { informed = h; serves = o }) (serves_on_acts a c g gs h k)
+    wake_acts a c (g ∷ gs) o h k = either (Acts Own) (is_gathering a.last_act) _ _ (record { informed = h; serves = o.receives _ _ }) (serves_on_acts a c g gs o h k)
 
     next_one_acts : (s : Serving) (a : Actor) (c : ConsumerSettings) (gs : List Got) → IsInformed a → AreKnown site arrivals gs → Acts Own (acts.Nothing, begins_next s (record a { held = gs }) c now)
     next_one_acts Each a c gs h k = begins_acts c.fail_service (record a { held = gs }) c (drawn_time c.service a.draws) (with_lists _ k h.done h.failed)
@@ -157,24 +164,24 @@ module _ (site arrivals : ℕ) where
     got_acts [] a c (g ∷ gs) l h k = gathers_acts (record a { held = g ∷ gs; done = []; failed = []; ends = now + c.gather }) c 0 (with_lists _ k tt tt)
     got_acts (x ∷ xs) a c gs l h k = gathers_acts (record a { held = x ∷ xs ++ gs }) c (rest_after c.idle gs) (with_lists _ (known_append (x ∷ xs) gs l k) h.done h.failed)
 
-    failed_acts : (a : Actor) (c : ConsumerSettings) (gs : List Got) → IsInformed a → AreKnown site arrivals gs → Acts Own (has_failed a c now gs)
-    failed_acts a c [] h k = serving_acts a c a.held h h.held
-    failed_acts a c (g ∷ gs) h k = record { informed = with_lists _ h.held h.done k.1; serves = tt }
+    failed_acts : (a : Actor) (c : ConsumerSettings) (gs : List Got) → MayAsk Own c → IsInformed a → AreKnown site arrivals gs → Acts Own (has_failed a c now gs)
+    failed_acts a c [] o h k = serving_acts a c a.held h h.held
+    failed_acts a c (g ∷ gs) o h k = record { informed = with_lists _ h.held h.done k.1; serves = o.backs_off g a.draws }
 
-    told_acts : (a : Actor) (c : ConsumerSettings) (last : LastAct) → IsInformed a → Acts Own (consumer_told a c now last)
-    told_acts a c Asked h = record { informed = with_lists _ h.held h.done h.failed; serves = tt }
-    told_acts a c Gathered h = gathers_acts a c c.idle h
-    told_acts a c (Served receipt) h = record { informed = with_lists _ h.held h.done h.failed; serves = tt }
-    told_acts a c Ended h = serving_acts a c a.held h h.held
-    told_acts a c Failed h = failed_acts a c a.failed h h.failed
-    told_acts a c Beat h = record { informed = with_lists _ h.held h.done h.failed; serves = tt }
-    told_acts a c last h = idles a h
+    told_acts : (a : Actor) (c : ConsumerSettings) (last : LastAct) → MayAsk Own c → IsInformed a → Acts Own (consumer_told a c now last)
+    told_acts a c Asked o h = record { informed = with_lists _ h.held h.done h.failed; serves = tt }
+    told_acts a c Gathered o h = gathers_acts a c c.idle h
+    told_acts a c (Served receipt) o h = record { informed = with_lists _ h.held h.done h.failed; serves = tt }
+    told_acts a c Ended o h = serving_acts a c a.held h h.held
+    told_acts a c Failed o h = failed_acts a c a.failed o h h.failed
+    told_acts a c Beat o h = record { informed = with_lists _ h.held h.done h.failed; serves = tt }
+    told_acts a c last o h = idles a h
 
-    copy_rests_acts : (wanted : Bool) (s : Scaling) (a : Actor) (c : ConsumerSettings) (next : Option ℕ) → Own c.timeout → IsInformed a → Acts Own (copy_rests wanted s a c now next)
+    copy_rests_acts : (wanted : Bool) (s : Scaling) (a : Actor) (c : ConsumerSettings) (next : Option ℕ) → MayAsk Own c → IsInformed a → Acts Own (copy_rests wanted s a c now next)
     copy_rests_acts false s a c next o h = record { informed = with_lists _ h.held h.done h.failed; serves = tt }
     copy_rests_acts true s a c next o h = either (Acts Own) (is_parked a.last_act) _ _ (record { informed = with_lists _ h.held h.done h.failed; serves = tt }) (wake_acts a c a.held o h h.held)
 
-    copy_acts : (scaling : Option Scaling) (a : Actor) (c : ConsumerSettings) (st : Standing) → Own c.timeout → IsInformed a → Acts Own (copy_wake scaling a c now st)
+    copy_acts : (scaling : Option Scaling) (a : Actor) (c : ConsumerSettings) (st : Standing) → MayAsk Own c → IsInformed a → Acts Own (copy_wake scaling a c now st)
     copy_acts None a c st o h = wake_acts a c a.held o h h.held
     copy_acts (Some s) a c st o h = either (Acts Own) (has_nothing a) _ _ (copy_rests_acts (is_wanted s st.number a) s a c st.next o h) (wake_acts a c a.held o h h.held)
 
@@ -194,10 +201,10 @@ module _ (site arrivals : ℕ) where
   as_acts now (Producer p) a (told_by.Wake st) h k = producer_acts (AsksOwn (Producer p)) now a p h
   as_acts now (Producer p) a told_by.Other h k = sent_acts (AsksOwn (Producer p)) now a p h
   as_acts now (Producer p) a w h k = idles (AsksOwn (Producer p)) now a h
-  as_acts now (Consumer c) a (told_by.Wake st) h k = copy_acts (AsksOwn (Consumer c)) now c.scaling (woken a) c st refl (with_lists (AsksOwn (Consumer c)) now _ h.held h.done h.failed)
+  as_acts now (Consumer c) a (told_by.Wake st) h k = copy_acts (AsksOwn (Consumer c)) now c.scaling (woken a) c st (may_ask c) (with_lists (AsksOwn (Consumer c)) now _ h.held h.done h.failed)
   as_acts now (Consumer c) a (told_by.Got gots) h k = got_acts (AsksOwn (Consumer c)) now a.held a c gots h.held h k
   as_acts now (Consumer c) a told_by.Waiting h k = idles (AsksOwn (Consumer c)) now a h
-  as_acts now (Consumer c) a told_by.Other h k = told_acts (AsksOwn (Consumer c)) now a c a.last_act h
+  as_acts now (Consumer c) a told_by.Other h k = told_acts (AsksOwn (Consumer c)) now a c a.last_act (may_ask c) h
   as_acts now (Scaler s) a (told_by.Wake st) h k = scaler_acts (AsksOwn (Scaler s)) now (read_before a.last_act) (woken a) s (copies_by s a.last_act) (changed_at a.last_act) st.number (with_lists (AsksOwn (Scaler s)) now _ h.held h.done h.failed)
   as_acts now (Scaler s) a w h k = idles (AsksOwn (Scaler s)) now a h
 

@@ -2,20 +2,10 @@
 -- queue.
 use Rattle.std.specs.Prelude.{All, Bool, List, Some, [], false, slice_get, true, ℕ, ◌++◌, ◌<◌, ◌∷◌, ◌≡◌, ◌≤◌, ◌⊎◌, ◌||◌}
 use Rattle.std.proofs.Common.{ap, arith, inl, inr, refl, subst, sym, true≢false, ◌∙◌}
-use Rattle.std.proofs.lemmas.Bool.{leb-true}
-use Rattle.sim_clock.specs.declared.key.Key.{Key}
-use Rattle.sqs_message.specs.declared.ids.MessageId.{MessageId}
-use Rattle.sqs_message.specs.declared.message.Message.{Message}
-use Rattle.sqs_message.specs.declared.row.Row.{Row}
-use Rattle.sqs_message.specs.declared.row.RowKind.{RowKind}
+use Rattle.sqs_laws.proofs.Terms.{id_of, in_flight, is_in_flight, IsQueueSettings, IsRunOf, Key, leb-true, Message, MessageId, Queue, QueueSettings, Row, RowKind, Run, Scenario}
 use Rattle.sqs_message.specs.declared.row.RowKind.TheVariants as kinds
-use Rattle.sqs_redrive.specs.declared.settings.QueueSettings.{QueueSettings}
-use Rattle.sqs_model.specs.Queue.{Queue, id_of, is_in_flight, in_flight}
-use Rattle.sqs_model.specs.Run.{IsRunOf, Run}
-use Rattle.sqs_model.specs.Scenario.{Scenario}
-use Rattle.sqs_model.specs.Valid.{IsQueueSettings}
 use Rattle.sqs_laws.specs.Laws.{InFlight}
-use Rattle.sqs_laws.specs.Words.{EachRow, changed, comings, flying, in_flight_at, is_move, is_redrive}
+use Rattle.sqs_laws.specs.Words.{changed, comings, flying, in_flight_at, is_move, is_redrive}
 use Rattle.sqs_laws.specs.Words as words
 use Rattle.sqs_laws.proofs.Calls.{visible_rests}
 use Rattle.sqs_laws.proofs.End as end

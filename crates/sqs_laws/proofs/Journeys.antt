@@ -1,29 +1,12 @@
 -- Journeys: what is sent on to a queue arrives there, or is still under way.
-use Rattle.std.specs.Ordering.{on}
-use Rattle.std.specs.Prelude.{All, Bool, List, None, Option, Some, [], cond, false, find, if◌then◌else◌, length, map, suc, true, zero, ℕ, ◌+◌, ◌++◌, ◌<◌, ◌==◌, ◌∷◌, ◌≡◌, ◌≢◌, ◌≤◌}
+use Rattle.sqs_laws.proofs.Terms.{absent_without, accepted, after, all_inserted, all_without, by_cases, delivered, delivered_one, dues, either, eqb-false, eqb-true, find_all, find_picked, handled_among, handled_here, handled_there, handled_when, has_key, is_arrival, is_due, Key, key_cmp, least_due, length-map, ne_eqb, next_due, number_of, on, Outbound, Row, Run, Site, sqs, Stepped, stepped_at, total, total_append, total_inserted, total_without, transfer_key, without}
+use Rattle.std.specs.Prelude.{All, Bool, List, None, Option, Some, [], false, find, if◌then◌else◌, length, map, suc, true, zero, ℕ, ◌+◌, ◌++◌, ◌<◌, ◌==◌, ◌∷◌, ◌≡◌, ◌≢◌, ◌≤◌}
 use Rattle.std.proofs.Common.{ap, arith, refl, subst, sym, ◌∙◌}
-use Rattle.std.proofs.lemmas.Bool.{eqb-false, eqb-true, ne_eqb}
-use Rattle.std.proofs.lemmas.List.{length-map}
-use Rattle.sim_clock.specs.declared.key.Key.{Key}
-use Rattle.sim_clock.specs.Firsts.{without}
-use Rattle.sim_clock.specs.Order.{key_cmp}
 use Rattle.sim_clock.proofs.Least.{key_tied}
-use Rattle.sim_clock.proofs.Lists.{all_inserted}
 use Rattle.sim_engine.specs.Members.{Each, In}
 use Rattle.sim_engine.specs.Setting.{IsNumbered}
-use Rattle.sqs_message.specs.declared.row.Row.{Row}
 use Rattle.sqs_message.specs.declared.row.RowKind.TheVariants as kinds
-use Rattle.sqs_redrive.specs.declared.transfers.Outbound.{Outbound}
-use Rattle.sqs_redrive.specs.Transfers.{transfer_key}
-use Rattle.sqs_model.specs.Dues.{dues, least_due}
-use Rattle.sqs_model.specs.Run.{Run, after}
-use Rattle.sqs_model.specs.Site.{Site, accepted, has_key, number_of}
-use Rattle.sqs_model.specs.Sqs.{sqs}
-use Rattle.sqs_model.specs.Step.{handled, handled_when, is_arrival}
-use Rattle.sqs_model.specs.World.{Stepped, delivered, delivered_one, handled_among, handled_here, handled_there, is_due, next_due, stepped_at}
-use Rattle.sqs_model.proofs.Branches.{by_cases, either}
-use Rattle.sqs_model.proofs.Counts.{all_without, find_all, find_picked, total, total_append, total_without}
-use Rattle.sqs_model.proofs.Instance.{total_inserted}
+use Rattle.sqs_model.specs.Step.{handled}
 use Rattle.sqs_model.proofs.Kept.{handled_number}
 use Rattle.sqs_model.proofs.WorldMoves.{is_due_least, least_in}
 use Rattle.sqs_laws.proofs.Left.{same_among, same_delivered}
@@ -63,14 +46,6 @@ all_for [] w h = h
 all_for (o ∷ os) w h = all_for os (map (delivered_one o) w) (map_for o w h)
 
 -- what is on its way after a handling
-without_none : {A : Type 0} (p : A → Bool) (xs : List A) → find p xs ≡ None → without p xs ≡ xs
-without_none p [] e = refl
-without_none p (x ∷ xs) e =
-    elim (p x) as (λ b. cond b (Some x) (find p xs) ≡ None → cond b xs (x ∷ without p xs) ≡ x ∷ xs) [
-      | true ↦ λ k. cc
-      | false ↦ λ k. ap (λ t. x ∷ t) (without_none p xs k)
-    ] e
-
 arriving_after : (key : Key) (x : Site) → (handled key x).site.arriving ≡ (if is_arrival key.class then without (has_key key) x.arriving else x.arriving)
 unfolding handled
 arriving_after key x =
@@ -209,7 +184,7 @@ module _ (n : ℕ) (h : Outbound → ℕ) (elsewhere : (o : Outbound) → (o.to 
           → total g (handled key x).rows + total h (handled key x).site.arriving ≡ total h x.arriving
       arrived_by None f e same =
           let none : total g (handled key x).rows ≡ 0 = rows 0 (λ _. refl) (λ _. subst (λ o. IsComing key g 0 o x.core) (sym f) refl) in
-          let kept : total h (handled key x).site.arriving ≡ total h x.arriving = ap (total h) (same ∙ without_none (has_key key) x.arriving f) in
+          let kept : total h (handled key x).site.arriving ≡ total h x.arriving = ap (total h) (same ∙ absent_without (has_key key) x.arriving f) in
           omega (arith, none, kept)
       arrived_by (Some o) f e same =
           let is : transfer_key o ≡ key = sym (key_tied key (transfer_key o) (find_picked (has_key key) x.arriving o f)) in

@@ -1,17 +1,7 @@
 -- The queues at the end of a run: what a law says of each, and that nothing is due there by the horizon.
 use Rattle.std.specs.Prelude.{All, IsNone, List, None, Option, Some, [], if◌then◌else◌, length, nat_le, slice_get, ℕ, ◌+◌, ◌<◌, ◌==◌, ◌∷◌, ◌≡◌, ◌≤◌}
 use Rattle.std.proofs.Common.{arith, inl, inr, refl, ap, ◌∙◌, sym}
-use Rattle.std.proofs.lemmas.Bool.{eqb-false, eqb-true, leb-false}
-use Rattle.std.proofs.lemmas.Option.{slice_get_within}
-use Rattle.sim_clock.specs.declared.key.Key.{Key}
-use Rattle.sqs_redrive.specs.declared.settings.QueueSettings.{QueueSettings}
-use Rattle.sqs_model.specs.Dues.{least_due}
-use Rattle.sqs_model.specs.Run.{IsRunOf, Run}
-use Rattle.sqs_model.specs.Scenario.{Scenario}
-use Rattle.sqs_model.specs.Site.{Site, number_of}
-use Rattle.sqs_model.specs.World.{due_by, world_due}
-use Rattle.sqs_model.proofs.Branches.{by_cases}
-use Rattle.sqs_model.proofs.Members.{In, of_all}
+use Rattle.sqs_laws.proofs.Terms.{by_cases, due_by, eqb-false, eqb-true, In, IsRunOf, Key, least_due, leb-false, number_of, of_all, QueueSettings, Run, Scenario, Site, slice_get_within, world_due}
 use Rattle.sqs_laws.proofs.Left.{all_sites}
 use Rattle.sqs_laws.proofs.Moments.{IsFrom, IsTimely, due_lasts, due_timely, from_sites}
 use Rattle.sqs_laws.proofs.Worlds.{AreNumbered, IsGood, RowLaw, every_site}

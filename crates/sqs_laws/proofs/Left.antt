@@ -1,28 +1,11 @@
 -- What is left: the final queues have just the messages that came and have not left, as the rows tell of them.
-use Rattle.std.specs.List.{enumerate_from, range_with_len}
+use Rattle.sqs_laws.proofs.Terms.{after, All-append, All-head, All-map, All-nil, All-tail, All-weaker, Climbs, delivered, delivered_one, either, enumerate_from, eqb-false, eqb-true, final_message, handled, handled_among, handled_here, handled_there, has_number, id_of, is_due, IsQueueSettings, IsRunOf, Key, least_due, length-map, map-append, Message, MessageId, messages_at, next_due, number_of, numbered, opening, opening_site, Outbound, Queue, range_with_len, Row, Run, Scenario, Site, Stepped, stepped_at}
 use Rattle.std.specs.Prelude.{All, Bool, List, None, Option, Some, [], cond, false, filter, flat_map, is_none, is_some, length, map, not, suc, true, zero, ℕ, ◌+◌, ◌++◌, ◌<◌, ◌==◌, ◌∷◌, ◌≡◌, ◌≤◌}
 use Rattle.std.proofs.Common.{ap, arith, refl, subst, sym, ◌∙◌}
-use Rattle.std.proofs.lemmas.Bool.{eqb-false, eqb-true}
-use Rattle.std.proofs.lemmas.List.{length-map, map-append}
-use Rattle.std.proofs.lemmas.List.Elements.{All-append, All-head, All-map, All-nil, All-tail, All-weaker}
 use Rattle.std.proofs.lemmas.List.FromFn.{length-enumerate_from}
-use Rattle.sim_clock.specs.declared.key.Key.{Key}
-use Rattle.sqs_message.specs.declared.ids.MessageId.{MessageId}
-use Rattle.sqs_message.specs.declared.message.Message.{Message}
-use Rattle.sqs_message.specs.declared.row.Row.{Row}
-use Rattle.sqs_redrive.specs.declared.transfers.Outbound.{Outbound}
 use Rattle.sqs_model.specs.declared.finals.FinalMessage.{FinalMessage}
-use Rattle.sqs_model.specs.Dues.{least_due}
-use Rattle.sqs_model.specs.Finals.{final_message, finals_of, messages_at}
-use Rattle.sqs_model.specs.Queue.{Queue, has_number, id_of, is_in_flight as flies_there, numbered}
-use Rattle.sqs_model.specs.Run.{IsRunOf, Run, after}
-use Rattle.sqs_model.specs.Scenario.{Scenario, opening, opening_site}
-use Rattle.sqs_model.specs.Site.{Site, number_of}
-use Rattle.sqs_model.specs.Step.{handled}
-use Rattle.sqs_model.specs.Valid.{IsQueueSettings}
-use Rattle.sqs_model.specs.World.{Stepped, delivered, delivered_one, handled_among, handled_here, handled_there, is_due, next_due, stepped_at}
-use Rattle.sqs_model.proofs.Branches.{either}
-use Rattle.sqs_model.proofs.Numbered.{Climbs}
+use Rattle.sqs_model.specs.Finals.{finals_of}
+use Rattle.sqs_model.specs.Queue.{is_in_flight as flies_there}
 use Rattle.sqs_laws.specs.Laws.{WhatIsLeft}
 use Rattle.sqs_laws.specs.Words.{flying, has_left, is_in_flight, origin_of, that_stay, times}
 use Rattle.sqs_laws.proofs.End as end

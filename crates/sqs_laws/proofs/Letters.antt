@@ -1,21 +1,8 @@
 -- Dead letters: a message leaves for the dead-letter queue exactly when it was received as often as the policy says.
 use Rattle.std.specs.Prelude.{All, List, None, Option, Some, [], false, slice_get, true, ℕ, ◌&&◌, ◌+◌, ◌++◌, ◌<◌, ◌∷◌, ◌≡◌, ◌≤◌, ◌||◌}
 use Rattle.std.proofs.Common.{ap, arith, refl, subst, sym, ◌∙◌}
-use Rattle.std.proofs.lemmas.Bool.{leb-false, leb-true, and_parts}
-use Rattle.std.proofs.Math.Bool.{and-false}
-use Rattle.sim_clock.specs.declared.key.Key.{Key}
-use Rattle.sqs_message.specs.declared.ids.MessageId.{MessageId}
-use Rattle.sqs_message.specs.declared.message.Message.{Message}
+use Rattle.sqs_laws.proofs.Terms.{and-false, and_parts, bit, id_of, is_in_flight, IsQueueSettings, IsRunOf, Key, leaves, leb-false, leb-true, MayBePolicy, Message, MessageId, Policy, Queue, QueueSettings, Row, Run, Scenario}
 use Rattle.sqs_message.specs.declared.row.Detail.TheVariants as details
-use Rattle.sqs_message.specs.declared.row.Row.{Row}
-use Rattle.sqs_redrive.specs.declared.settings.Policy.{Policy}
-use Rattle.sqs_redrive.specs.declared.settings.QueueSettings.{QueueSettings}
-use Rattle.sqs_model.specs.Queue.{Queue, id_of, is_in_flight}
-use Rattle.sqs_model.specs.Return.{leaves}
-use Rattle.sqs_model.specs.Run.{IsRunOf, Run}
-use Rattle.sqs_model.specs.Scenario.{Scenario}
-use Rattle.sqs_model.specs.Valid.{IsQueueSettings, MayBePolicy}
-use Rattle.sqs_model.proofs.Ledger.{bit}
 use Rattle.sqs_laws.specs.Laws.{DeadLetters, HasPolicy}
 use Rattle.sqs_laws.specs.Words.{EachRow, is_redrive, is_release, names, times, is_arrive}
 use Rattle.sqs_laws.specs.Words as words

@@ -36,3 +36,5 @@ pub mod Fifo
 pub mod Repeats
 pub mod Delays
 pub mod Releases
+mod Terms
+mod Timeouts

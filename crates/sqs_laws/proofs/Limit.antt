@@ -1,31 +1,13 @@
 -- How many messages of a queue are in flight, by the rows so far, and that they are never more than its limit.
-use Rattle.std.specs.List.{count_by, range_with_len}
+use Rattle.sqs_laws.proofs.Terms.{All-filter, ascends_filter, bit, changed, Climbs, count_by, eqb-true, has_number, id_of, in_flight, in_flight_until, is_in_flight, Key, length-filter, length-map, Message, MessageId, numbered, Queue, range_with_len, received, Row, Scenario, total_changed, total_push, total_without, visible_again, without}
 use Rattle.std.specs.Prelude.{Bool, List, None, Option, Some, [], cond, false, filter, is_some, length, map, nat_lt, true, ℕ, ◌*◌, ◌+◌, ◌<◌, ◌∷◌, ◌≡◌, ◌≤◌, ◌++◌}
 use Rattle.std.proofs.Common.{ap, arith, refl, subst, sym, ◌∙◌}
-use Rattle.std.proofs.lemmas.Bool.{eqb-true}
-use Rattle.std.proofs.lemmas.List.{length-map}
-use Rattle.std.proofs.lemmas.List.Elements.{All-filter}
-use Rattle.std.proofs.lemmas.List.Sums.{length-filter}
-use Rattle.sim_clock.specs.declared.key.Key.{Key}
-use Rattle.sqs_message.specs.declared.ids.MessageId.{MessageId}
-use Rattle.sqs_message.specs.declared.message.Message.{Message}
-use Rattle.sqs_message.specs.declared.row.Row.{Row}
-use Rattle.sim_clock.specs.Firsts.{changed, without}
-use Rattle.sqs_model.specs.Calls.{in_flight_until}
-use Rattle.sqs_model.specs.Queue.{Queue, has_number, id_of, in_flight, is_in_flight, numbered}
-use Rattle.sqs_model.specs.Receive.{received}
-use Rattle.sqs_model.specs.Return.{visible_again}
-use Rattle.sqs_model.specs.Scenario.{Scenario}
-use Rattle.sqs_model.proofs.Counts.{total_changed, total_push, total_without}
-use Rattle.sqs_model.proofs.Ledger.{bit}
-use Rattle.sqs_model.proofs.Numbered.{Climbs}
-use Rattle.sqs_model.proofs.Opening.{ascends_filter}
 use Rattle.sqs_laws.specs.Words.{comings, flying, in_flight_at}
-use Rattle.sqs_laws.proofs.Calls.{flights_are}
 use Rattle.sqs_laws.proofs.Flights as fly
 use Rattle.sqs_laws.proofs.Left.{from_none, stays_from}
 use Rattle.sqs_laws.proofs.Moves.{Does, IsStocked, changes, comes, ends, receives, redrives, releases, stays, waits_rest}
 use Rattle.sqs_laws.proofs.Numbers.{none_below}
+use Rattle.sqs_laws.proofs.Said.{count_total}
 use Rattle.sqs_laws.proofs.Slots.{slot_of}
 use Rattle.sqs_laws.proofs.Worlds.{RowLaw}
 
@@ -76,17 +58,17 @@ module _ (key : Key) (q : Queue) (r : Row) (p : Queue) (h : in_flight q ≤ q.se
   does_limit (stays d) = subst Most d.same h
   does_limit (comes d) =
       let none : Flies d.one ≡ 0 = ap bit (waits_rest key.at d.delay d.one d.waits) in
-      subst Most d.after (omega (arith, h, none, total_push Flies q.records d.one, flights_are q.records, flights_are (q.records ++ d.one ∷ [])))
+      subst Most d.after (omega (arith, h, none, total_push Flies q.records d.one, count_total is_in_flight q.records, count_total is_in_flight (q.records ++ d.one ∷ [])))
   does_limit (receives d) =
       let x : List Message = changed (has_number d.number) (received key.at d.timeout) q.records in
-      subst Most d.after (omega (arith, d.room, total_changed (has_number d.number) Flies (received key.at d.timeout) q.records d.one d.names.there, flights_are q.records, flights_are x))
+      subst Most d.after (omega (arith, d.room, total_changed (has_number d.number) Flies (received key.at d.timeout) q.records d.one d.names.there, count_total is_in_flight q.records, count_total is_in_flight x))
   does_limit (changes d) =
       let f : Message → Message = in_flight_until (key.at + 1000 * d.timeout) in
       let flies : Flies d.one ≡ 1 = ap bit d.flies in
-      subst Most d.after (omega (arith, h, flies, total_changed (has_number d.number) Flies f q.records d.one d.names.there, flights_are q.records, flights_are (changed (has_number d.number) f q.records)))
-  does_limit (releases d) = subst Most d.after (omega (arith, h, total_changed (has_number d.number) Flies visible_again q.records d.one d.names.there, flights_are q.records, flights_are (changed (has_number d.number) visible_again q.records)))
-  does_limit (redrives d) = subst Most d.after (omega (arith, h, total_without (has_number d.number) Flies q.records d.one d.names.there, flights_are q.records, flights_are (without (has_number d.number) q.records)))
-  does_limit (ends d) = subst Most d.after (omega (arith, h, total_without (has_number d.number) Flies q.records d.one d.names.there, flights_are q.records, flights_are (without (has_number d.number) q.records)))
+      subst Most d.after (omega (arith, h, flies, total_changed (has_number d.number) Flies f q.records d.one d.names.there, count_total is_in_flight q.records, count_total is_in_flight (changed (has_number d.number) f q.records)))
+  does_limit (releases d) = subst Most d.after (omega (arith, h, total_changed (has_number d.number) Flies visible_again q.records d.one d.names.there, count_total is_in_flight q.records, count_total is_in_flight (changed (has_number d.number) visible_again q.records)))
+  does_limit (redrives d) = subst Most d.after (omega (arith, h, total_without (has_number d.number) Flies q.records d.one d.names.there, count_total is_in_flight q.records, count_total is_in_flight (without (has_number d.number) q.records)))
+  does_limit (ends d) = subst Most d.after (omega (arith, h, total_without (has_number d.number) Flies q.records d.one d.names.there, count_total is_in_flight q.records, count_total is_in_flight (without (has_number d.number) q.records)))
 
 abbrev pub limits : (s : Scenario) → RowLaw s
 limits s =

@@ -1,28 +1,14 @@
 -- Nothing that a queue holds back should have come back before: at a handling, and at the end of a run.
-use Rattle.std.specs.Ordering.{is_lt}
+use Rattle.sqs_laws.proofs.Terms.{actor_dues, All-cons, All-nil, all_in, by_cases, Core, expiry_key, find_all, has_number, id_of, In, in_left, in_right, into_flat, is_lt, Key, key_cmp, least, least_due, lesser, Message, message_dues, numbered, poll_key, Queue, queue_dues, QueueSettings, release_due, release_key, Row, sample_dues, Site, task_dues, transfer_key, world_due}
 use Rattle.std.specs.Prelude.{All, Bool, List, None, Option, Some, [], false, flat_map, if◌then◌else◌, map, true, ℕ, ◌+◌, ◌==◌, ◌∷◌, ◌≡◌, ◌≤◌, ◌*◌, get_or, ◌++◌, ◌&&◌, ◌⊎◌}
 use Rattle.std.proofs.Common.{ap, arith, inl, inr, refl, subst, sym, ◌∙◌}
-use Rattle.std.proofs.lemmas.List.Elements.{All-cons, All-nil}
-use Rattle.sim_clock.specs.declared.key.Key.{Key}
-use Rattle.sim_clock.specs.Order.{key_cmp, least, lesser}
 use Rattle.sim_clock.proofs.Orderings.{key_less, key_not_less}
-use Rattle.sqs_message.specs.declared.message.Message.{Message}
-use Rattle.sqs_message.specs.declared.row.Row.{Row}
-use Rattle.sqs_redrive.specs.Transfers.{transfer_key}
-use Rattle.sqs_model.specs.Dues.{actor_dues, core_dues, dues, least_due, message_dues, poll_key, queue_dues, release_due, sample_dues, task_dues, expiry_key}
-use Rattle.sqs_model.specs.Queue.{Queue, has_number, numbered, id_of}
-use Rattle.sqs_model.specs.Site.{Core, Site}
-use Rattle.sqs_model.specs.World.{world_due}
-use Rattle.sqs_model.proofs.Branches.{by_cases}
-use Rattle.sqs_model.proofs.Counts.{find_all}
-use Rattle.sqs_model.proofs.EachDue.{release_key}
-use Rattle.sqs_model.proofs.Members.{In, all_in, in_left, in_right, into_flat}
+use Rattle.sqs_model.specs.Dues.{core_dues, dues}
 use Rattle.sqs_laws.proofs.Moves.{Does, Waits, CameNow, IsStocked, Keeps, does_keep, does_all, Comes}
 use Rattle.sqs_laws.proofs.Naming.{last_as, names_same}
 use Rattle.sqs_laws.specs.Words.{names}
 use Rattle.sqs_laws.specs.Words as words
 use Rattle.sqs_laws.proofs.Traces.{does_apart}
-use Rattle.sqs_redrive.specs.declared.settings.QueueSettings.{QueueSettings}
 
 -- what is due, if anything, is due from a moment on
 abbrev pub IsFrom : ℕ → Option Key → Type 0

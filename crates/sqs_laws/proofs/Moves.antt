@@ -1,64 +1,30 @@
 -- What a row of a handling did to its queue.
-use Rattle.std.specs.Prelude.{All, Bool, length, slice_get, Err, List, None, Ok, Option, Result, Some, [], false, true, ℕ, if◌then◌else◌, ◌*◌, ◌+◌, ◌++◌, ◌<◌, ◌==◌, ◌∷◌, ◌≡◌, ◌≤◌, ◌⊎◌, ◌-◌, ◌&&◌, ◌||◌}
+use Rattle.std.specs.Prelude.{All, Bool, length, nat_lt, slice_get, Err, List, None, Ok, Option, Result, Some, [], false, true, ℕ, if◌then◌else◌, ◌*◌, ◌+◌, ◌++◌, ◌<◌, ◌==◌, ◌∷◌, ◌≡◌, ◌≢◌, ◌≤◌, ◌⊎◌, ◌-◌, ◌&&◌, ◌||◌}
 use Rattle.std.proofs.Common.{ap, arith, inl, inr, refl, subst, sym, true≢false, ◌∙◌}
-use Rattle.std.proofs.Math.Bool.{and-false}
-use Rattle.std.proofs.lemmas.List.{append-nil, append_assoc}
-use Rattle.std.proofs.lemmas.List.Elements.{All-push, All-weaker}
-use Rattle.sim_clock.specs.declared.key.Key.{Key}
-use Rattle.sim_clock.specs.declared.refusal.Refusal.{Refusal}
+use Rattle.sqs_model.specs.Receive.{is_bad_timeout}
+use Rattle.sqs_laws.proofs.Terms.{Actor, ActorSettings, All-push, All-weaker, all_changed, all_without, and-false, append-nil, append_assoc, ascends_changed, ascends_push, ascends_without, brought, change, Climbs, Consumer, Core, deduplication_interval, delete, Deleted, either, enqueued_at, Entry, Gone, has_number, id_of, In, in_flight, in_flight_until, in_left, is_deleted, is_expired, is_in_flight, is_visible, is_worn, IsFound, IsSoundRole, Kept, Key, leaves, Load, longest_flight, longest_timeout, Message, MessageId, numbered, of_all, or_parts, origin_in, Outbound, Place, Policy, Poll, Producer, Queue, read_receipt, Receipt, received, Refusal, Removed, Role, Row, RowAnswer, RowKind, same_group, Scaler, Scenario, Script, ScriptCall, taken_out, Task, visible_again, with_change, with_message}
 use Rattle.sim_clock.specs.declared.refusal.Refusal.TheVariants as refusals
-use Rattle.sqs_message.specs.declared.ids.MessageId.{MessageId}
-use Rattle.sqs_message.specs.declared.ids.Receipt.{Receipt}
-use Rattle.sqs_message.specs.declared.message.Message.{Message}
-use Rattle.sqs_message.specs.declared.message.Place.{Place}
 use Rattle.sqs_message.specs.declared.message.Place.TheVariants as places
 use Rattle.sqs_message.specs.declared.row.Detail.TheVariants as details
-use Rattle.sqs_message.specs.declared.row.Row.{Row}
-use Rattle.sqs_message.specs.declared.row.RowAnswer.{RowAnswer}
 use Rattle.sqs_message.specs.declared.row.RowAnswer.TheVariants as answers
-use Rattle.sqs_message.specs.declared.row.RowKind.{RowKind}
 use Rattle.sqs_message.specs.declared.row.RowKind.TheVariants as kinds
 use Rattle.sqs_message.specs.declared.row.RowReceipt.TheVariants as receipts
-use Rattle.sqs_message.specs.Ids.{read_receipt}
-use Rattle.sqs_redrive.specs.declared.answers.Deleted.{Deleted}
-use Rattle.sqs_redrive.specs.declared.answers.Deleted.TheVariants.{Gone, Kept, Removed}
-use Rattle.sqs_redrive.specs.declared.settings.Policy.{Policy}
-use Rattle.sqs_redrive.specs.declared.transfers.Load.{Load}
 use Rattle.sqs_redrive.specs.declared.transfers.Load.TheVariants as loads
 use Rattle.sqs_message.specs.declared.ids.Origin.{Origin}
-use Rattle.sqs_model.specs.Arrive.{brought, enqueued_at}
-use Rattle.std.proofs.lemmas.Bool.{or_parts}
-use Rattle.sqs_redrive.specs.MoveTasks.{is_worn}
 use Rattle.md5.specs.Md5.{md5}
 use Rattle.sqs_message.specs.declared.calls.Call.TheVariants as calls
-use Rattle.sqs_message.specs.declared.calls.ScriptCall.{ScriptCall}
-use Rattle.sqs_model.specs.declared.agents.ActorSettings.{ActorSettings}
-use Rattle.sqs_model.specs.declared.agents.Role.{Role}
-use Rattle.sqs_model.specs.declared.agents.Role.TheVariants.{Consumer, Producer, Scaler, Script}
-use Rattle.sqs_model.specs.Actor.{Actor}
-use Rattle.sqs_model.specs.Accounts.{is_deleted, is_expired, origin_in}
-use Rattle.sqs_model.specs.Queue.{Entry, Queue, has_number, id_of, in_flight, is_in_flight, is_visible, numbered, same_group, taken_out, with_change}
-use Rattle.sqs_model.specs.Calls.{change, delete, in_flight_until, with_message}
-use Rattle.sqs_model.specs.Longest.{deduplication_interval, longest_flight}
-use Rattle.sqs_model.specs.Receive.{received}
-use Rattle.sqs_model.specs.Progress.{IsSoundRole}
-use Rattle.sqs_model.specs.Return.{leaves, visible_again}
-use Rattle.sqs_model.specs.Scenario.{Scenario}
-use Rattle.sqs_model.proofs.Branches.{either}
-use Rattle.sqs_model.proofs.Counts.{all_changed, all_without, ascends_changed, ascends_push, ascends_without}
-use Rattle.sqs_model.proofs.Members.{In, in_left, of_all}
-use Rattle.sqs_model.proofs.Numbered.{Climbs}
-use Rattle.sqs_model.specs.Site.{Core, Poll}
-use Rattle.sqs_model.proofs.SiteAccounts.{IsFound}
-use Rattle.sqs_model.specs.Task.{Task}
-use Rattle.sqs_redrive.specs.declared.transfers.Outbound.{Outbound}
-use Rattle.sqs_laws.specs.Sends.{AsksBy, Given, GivesAs, IsByCall, IsSender, delay_given, key_given, milliseconds_or}
+use Rattle.sqs_laws.specs.Sends.{AsksBy, AsksToChangeAs, Given, GivesAs, IsByCall, IsSender, delay_given, key_given, milliseconds_or}
 use Rattle.sqs_laws.specs.Laws.{EnqueuedAt, HasPolicy, MayArrive, fifo_at, is_actor_of, is_fifo}
 use Rattle.sqs_laws.specs.Words as words
 
 -- a deduplication entry of a queue, or a new one of the message that comes to it, which lives for 5 minutes
 abbrev pub IsEntered : Key → Queue → Entry → Type 0
 IsEntered key q e = In q.entries e ⊎ ((e.number ≡ q.arrivals) × (e.end ≡ key.at + deduplication_interval))
+
+-- the entries with which a message comes: such ones, and of those that were there all that live
+pub record AreEntered (key : Key) (q : Queue) (entries : List Entry) : Type 0 where
+  pub each : All (IsEntered key q) entries
+  pub kept : (e : Entry) → In q.entries e → key.at < e.end → In entries e
 
 -- a message that comes at a moment and waits for the end of its delay, if it has one
 pub record Waits (at delay : ℕ) (m : Message) : Type 0 where
@@ -103,22 +69,14 @@ abbrev pub changed_answer : Result (Option Load) Refusal → RowAnswer
 changed_answer (Ok left) = answers.Ok
 changed_answer (Err e) = answers.Refused e
 
--- an error of a change by a text that is no receipt
-abbrev pub IsNoReceipt : RowAnswer → Type 0
-IsNoReceipt a = (a ≡ answers.Refused refusals.ReceiptHandleIsInvalid) ⊎ (a ≡ answers.Refused refusals.BadTimeout)
-
--- a change by a text, which may be no receipt
-pub record AsksChange (key : Key) (q : Queue) (r : Row) : Type 0 where
-  pub text : List ℕ
-  pub given : r.receipt ≡ receipts.Given text
-  pub timeout : ℕ
-  pub by : (x : Receipt) → read_receipt text ≡ Some x → r.answer ≡ changed_answer (change q key.at x timeout).0
-  pub none : read_receipt text ≡ None → IsNoReceipt r.answer
+-- the answer of a send
+abbrev pub IsSendAnswer : RowAnswer → Type 0
+IsSendAnswer a = (words.is_new a || words.is_repeat a || words.is_refused a) ≡ true
 
 -- what a row of a kind asks of its queue
 abbrev pub Asks : Key → Queue → Row → RowKind → Type 0
 Asks key q r kinds.Delete = AsksDelete key q r
-Asks key q r kinds.Change = AsksChange key q r
+Asks key q r kinds.Send = IsSendAnswer r.answer
 Asks key q r kind = Unit {0}
 
 -- the origin of the next message that is accepted at a queue
@@ -146,7 +104,7 @@ module _ (key : Key) (q : Queue) (r : Row) (p : Queue) where
     pub waits : Waits key.at delay one
     pub told : origin_in r (Some (id_of q q.arrivals)) ≡ Some one.origin
     pub sent : words.is_send r.kind ≡ true → (one.enqueued ≡ key.at) × (one.origin ≡ own_origin q)
-    pub entered : All (IsEntered key q) entries
+    pub entered : AreEntered key q entries
     pub after : with_message (record q { entries = entries }) one ≡ p
 
   -- a message of the queue that a row names
@@ -241,6 +199,14 @@ pub record IsNext (past : List Row) (q : Queue) (r : Row) (n : ℕ) (one : Messa
 abbrev pub HasKey : Scenario → Queue → Row → Entry → Type 0
 HasKey s q r e = All (λ a. IsSoundRole a.role) s.actors → (x : Given) → GivesAs s r.agent r.key.at x → key_given q.settings.kind x ≡ (e.scope, Some e.id)
 
+-- what is sent to a FIFO queue adds an entry, and no entry that lives has its scope and its deduplication id
+pub record AddsEntry (s : Scenario) (q : Queue) (r : Row) (p : Queue) : Type 0 where
+  pub entry : Entry
+  pub there : In p.entries entry
+  pub number : entry.number ≡ q.arrivals
+  pub lives : entry.end ≡ r.key.at + deduplication_interval
+  pub differs : (e : Entry) → In q.entries e → r.key.at < e.end → All (λ a. IsSoundRole a.role) s.actors → (x : Given) → GivesAs s r.agent r.key.at x → key_given q.settings.kind x ≢ (e.scope, Some e.id)
+
 -- a row that repeats a message of a FIFO queue, by a deduplication entry that lives
 pub record RepeatsEntry (s : Scenario) (q : Queue) (r : Row) : Type 0 where
   pub fifo : is_fifo q.settings.kind ≡ true
@@ -259,7 +225,7 @@ pub record IsCalled (past : List Row) (at : ℕ) (timeout : Option ℕ) (c : Scr
   pub waits : at ≤ c.at + 1000 * wait
 
 abbrev pub IsAskedFor : Scenario → List Row → ℕ → ℕ → Option ℕ → Type 0
-IsAskedFor s past agent at timeout = (a : ActorSettings) × (slice_get s.actors (agent - length s.queues) ≡ Some a) × AsksBy (IsCalled past at timeout) a.role timeout
+IsAskedFor s past agent at timeout = (a : ActorSettings) × (slice_get s.actors (agent - length s.queues) ≡ Some a) × AsksBy (IsCalled past at timeout) a.role timeout × (is_bad_timeout timeout ≡ false)
 
 pub asks_as : (C D : ScriptCall → Type 0) → ((c : ScriptCall) → C c → D c) → (role : Role) (timeout : Option ℕ) → AsksBy C role timeout → AsksBy D role timeout
 asks_as C D f (Script cs) timeout x = (x.0, x.1, f x.0 x.2)
@@ -268,7 +234,7 @@ asks_as C D f (Producer p) timeout x = absurd x
 asks_as C D f (Scaler s) timeout x = absurd x
 
 pub asks_later : (s : Scenario) (past more : List Row) (agent at : ℕ) (timeout : Option ℕ) → IsAskedFor s past agent at timeout → IsAskedFor s (past ++ more) agent at timeout
-asks_later s past more agent at timeout (a, e, x) = (a, e, asks_as (IsCalled past at timeout) (IsCalled (past ++ more) at timeout) (λ c y. record { most = y.most; wait = y.wait; call = y.call; waits = y.waits; begun = elim y.begun as (λ _. (c.at ≡ at) ⊎ ((w : Row) × In (past ++ more) w × (w.key.at ≡ c.at))) [ inl n ↦ inl n | inr w ↦ inr (w.0, in_left past more w.0 w.1, w.2) ] }) a.role timeout x)
+asks_later s past more agent at timeout (a, e, x, b) = (a, e, asks_as (IsCalled past at timeout) (IsCalled (past ++ more) at timeout) (λ c y. record { most = y.most; wait = y.wait; call = y.call; waits = y.waits; begun = elim y.begun as (λ _. (c.at ≡ at) ⊎ ((w : Row) × In (past ++ more) w × (w.key.at ≡ c.at))) [ inl n ↦ inl n | inr w ↦ inr (w.0, in_left past more w.0 w.1, w.2) ] }) a.role timeout x, b)
 
 -- what is received is in flight until the end of the timeout that its receive asked for
 pub record IsTimed (s : Scenario) (past : List Row) (q : Queue) (r : Row) (one : Message) : Type 0 where
@@ -343,6 +309,20 @@ pub record IsEnd (past : List Row) (q : Queue) (r : Row) (n : ℕ) (m : Message)
   pub age : r.detail ≡ details.Age (r.key.at - m.enqueued)
   pub over : is_expired r.answer ≡ true → (r.key.at ≡ m.enqueued + q.settings.retention) ⊎ ((m.enqueued + q.settings.retention ≤ r.key.at) × CameNow past (id_of q n) r.key.at)
 
+-- the answer of a change by a text that is no receipt
+abbrev pub unread_answer : ℕ → RowAnswer
+unread_answer timeout = answers.Refused (if nat_lt longest_timeout timeout then refusals.BadTimeout else refusals.ReceiptHandleIsInvalid)
+
+-- a change by a text, which may be no receipt, for so many seconds as its actor asks for
+pub record AsksChange (s : Scenario) (q : Queue) (r : Row) : Type 0 where
+  pub text : List ℕ
+  pub given : r.receipt ≡ receipts.Given text
+  pub timeout : ℕ
+  pub own : AsksToChangeAs s q.settings r.agent r.key.at text timeout
+  pub told : words.changed r ≡ true → r.detail ≡ details.Timeout timeout
+  pub by : (x : Receipt) → read_receipt text ≡ Some x → r.answer ≡ changed_answer (change q r.key.at x timeout).0
+  pub none : read_receipt text ≡ None → r.answer ≡ unread_answer timeout
+
 -- What a row has to do with the settings, and with the rows before it. What is sent is what its actor gives, with its group and
 -- with an entry of its deduplication id, and what arrives is what was under way. What a FIFO queue gives is the next of its
 -- group, and what is repeated has an entry. What ends tells its age.
@@ -355,19 +335,21 @@ pub record IsBehind (s : Scenario) (past : List Row) (q : Queue) (r : Row) (p : 
   pub brought : words.comes r ≡ true → words.is_send r.kind ≡ false → (m : Message) → numbered q.arrivals p.records ≡ Some m → IsBrought s past q r m
   pub ends : 0 < q.settings.retention → (is_deleted r.answer || is_expired r.answer) ≡ true → (n : ℕ) (one : Message) → r.message ≡ Some (id_of q n) → numbered n q.records ≡ Some one → IsEnd past q r n one
   pub enters : (words.is_send r.kind && words.comes r) ≡ true → (e : Entry) → In p.entries e → e.number ≡ q.arrivals → HasKey s q r e
+  pub anew : (words.is_send r.kind && words.comes r) ≡ true → is_fifo q.settings.kind ≡ true → AddsEntry s q r p
+  pub asks : words.is_change r.kind ≡ true → AsksChange s q r
 
 -- of a row by which nothing is sent, received, repeated or ended there is nothing to say
-pub of_end : (s : Scenario) (past : List Row) (q : Queue) (r : Row) (p : Queue) → words.comes r ≡ false → words.received r ≡ false → words.is_repeat r.answer ≡ false → (0 < q.settings.retention → (is_deleted r.answer || is_expired r.answer) ≡ true → (n : ℕ) (one : Message) → r.message ≡ Some (id_of q n) → numbered n q.records ≡ Some one → IsEnd past q r n one) → IsBehind s past q r p
-of_end s past q r p n b c d =
+pub of_end : (s : Scenario) (past : List Row) (q : Queue) (r : Row) (p : Queue) → (words.is_change r.kind ≡ true → AsksChange s q r) → words.comes r ≡ false → words.received r ≡ false → words.is_repeat r.answer ≡ false → (0 < q.settings.retention → (is_deleted r.answer || is_expired r.answer) ≡ true → (n : ℕ) (one : Message) → r.message ≡ Some (id_of q n) → numbered n q.records ≡ Some one → IsEnd past q r n one) → IsBehind s past q r p
+of_end s past q r p y n b c d =
     let a : (words.is_send r.kind && words.comes r) ≡ false = ap (λ x. words.is_send r.kind && x) n ∙ and-false (words.is_send r.kind) in
-    record { brought = λ e. absurd (true≢false (sym e ∙ n)); sends = λ e. absurd (true≢false (sym e ∙ a)); enters = λ e. absurd (true≢false (sym e ∙ a)); repeats = λ e. absurd (true≢false (sym e ∙ c)); ends = d; given = λ e m h k x i. absurd (true≢false (sym e ∙ a)); next = λ e f n one g h. absurd (true≢false (sym e ∙ b)); timed = λ e n one g h. absurd (true≢false (sym e ∙ b)) }
+    record { brought = λ e. absurd (true≢false (sym e ∙ n)); sends = λ e. absurd (true≢false (sym e ∙ a)); enters = λ e. absurd (true≢false (sym e ∙ a)); anew = λ e. absurd (true≢false (sym e ∙ a)); asks = y; repeats = λ e. absurd (true≢false (sym e ∙ c)); ends = d; given = λ e m h k x i. absurd (true≢false (sym e ∙ a)); next = λ e f n one g h. absurd (true≢false (sym e ∙ b)); timed = λ e n one g h. absurd (true≢false (sym e ∙ b)) }
 
-pub of_none : (s : Scenario) (past : List Row) (q : Queue) (r : Row) (p : Queue) → words.comes r ≡ false → words.received r ≡ false → words.is_repeat r.answer ≡ false → (is_deleted r.answer || is_expired r.answer) ≡ false → IsBehind s past q r p
-of_none s past q r p a b c d = of_end s past q r p a b c (λ l e. absurd (true≢false (sym e ∙ d)))
+pub of_none : (s : Scenario) (past : List Row) (q : Queue) (r : Row) (p : Queue) → (words.is_change r.kind ≡ true → AsksChange s q r) → words.comes r ≡ false → words.received r ≡ false → words.is_repeat r.answer ≡ false → (is_deleted r.answer || is_expired r.answer) ≡ false → IsBehind s past q r p
+of_none s past q r p y a b c d = of_end s past q r p y a b c (λ l e. absurd (true≢false (sym e ∙ d)))
 
-pub of_one : (s : Scenario) (past : List Row) (q : Queue) (r : Row) (p : Queue) (n : ℕ) (m : Message) → words.comes r ≡ false → words.received r ≡ false → words.is_repeat r.answer ≡ false → r.message ≡ Some (id_of q n) → numbered n q.records ≡ Some m → (0 < q.settings.retention → IsEnd past q r n m) → IsBehind s past q r p
-of_one s past q r p n m a b c f g w =
-    of_end s past q r p a b c
+pub of_one : (s : Scenario) (past : List Row) (q : Queue) (r : Row) (p : Queue) (n : ℕ) (m : Message) → words.is_change r.kind ≡ false → words.comes r ≡ false → words.received r ≡ false → words.is_repeat r.answer ≡ false → r.message ≡ Some (id_of q n) → numbered n q.records ≡ Some m → (0 < q.settings.retention → IsEnd past q r n m) → IsBehind s past q r p
+of_one s past q r p n m y a b c f g w =
+    of_end s past q r p (λ e. absurd (true≢false (sym e ∙ y))) a b c
     (λ l e k x i j.
     let both : Some (id_of q n) ≡ Some (id_of q k) = sym f ∙ i in
     let ids : id_of q n ≡ id_of q k = cc in
@@ -379,8 +361,8 @@ of_one s past q r p n m a b c f g w =
 pub not_ended : (r : Row) → words.leaves r ≡ false → (is_deleted r.answer || is_expired r.answer) ≡ false
 not_ended r l = (or_parts (is_deleted r.answer || is_expired r.answer) (words.is_redrive r.kind) (or_parts (is_deleted r.answer || is_expired r.answer || words.is_redrive r.kind) (words.is_move r.kind) l).0).0
 
-pub tells_none : (s : Scenario) (past : List Row) (q : Queue) (r : Row) (p : Queue) → Tells r false false false false false → words.is_repeat r.answer ≡ false → IsBehind s past q r p
-tells_none s past q r p t n = of_none s past q r p t.comes_so t.received_so n (not_ended r t.leaves_so)
+pub tells_none : (s : Scenario) (past : List Row) (q : Queue) (r : Row) (p : Queue) → (words.is_change r.kind ≡ true → AsksChange s q r) → Tells r false false false false false → words.is_repeat r.answer ≡ false → IsBehind s past q r p
+tells_none s past q r p y t n = of_none s past q r p y t.comes_so t.received_so n (not_ended r t.leaves_so)
 
 -- rows one after another, behind the rows of the run so far
 abbrev pub Chain : Scenario → List Row → Key → Queue → List Row → Queue → Type 0
@@ -454,12 +436,22 @@ all_old key q entries s h =
 
 pub does_keep : (key : Key) (q : Queue) (r : Row) (p : Queue) → Does key q r p → IsStocked q → Keeps q p
 does_keep key q r p (stays d) s = keeps_same q p d.same s
-does_keep key q r p (comes d) s = subst (Keeps q) d.after (pushed_keeps q d.one d.entries d.number (all_old key q d.entries s d.entered) s)
+does_keep key q r p (comes d) s = subst (Keeps q) d.after (pushed_keeps q d.one d.entries d.number (all_old key q d.entries s d.entered.each) s)
 does_keep key q r p (receives d) s = subst (Keeps q) d.after (changed_keeps q d.number (received key.at d.timeout) (λ m. refl) s)
 does_keep key q r p (changes d) s = subst (Keeps q) d.after (changed_keeps q d.number (in_flight_until (key.at + 1000 * d.timeout)) (λ m. refl) s)
 does_keep key q r p (releases d) s = subst (Keeps q) d.after (changed_keeps q d.number visible_again (λ m. refl) s)
 does_keep key q r p (redrives d) s = subst (Keeps q) d.after (taken_keeps q d.number s)
 does_keep key q r p (ends d) s = subst (Keeps q) d.after (taken_keeps q d.number s)
+
+-- entries that live stay
+pub entries_stay : (key : Key) (q : Queue) (r : Row) (p : Queue) → Does key q r p → (e : Entry) → In q.entries e → key.at < e.end → In p.entries e
+entries_stay key q r p (stays d) e i l = subst (λ (y : Queue). In y.entries e) d.same i
+entries_stay key q r p (comes d) e i l = subst (λ (y : Queue). In y.entries e) d.after (d.entered.kept e i l)
+entries_stay key q r p (receives d) e i l = subst (λ (y : Queue). In y.entries e) d.after i
+entries_stay key q r p (changes d) e i l = subst (λ (y : Queue). In y.entries e) d.after i
+entries_stay key q r p (releases d) e i l = subst (λ (y : Queue). In y.entries e) d.after i
+entries_stay key q r p (redrives d) e i l = subst (λ (y : Queue). In y.entries e) d.after i
+entries_stay key q r p (ends d) e i l = subst (λ (y : Queue). In y.entries e) d.after i
 
 pub chain_keeps : (s : Scenario) (past : List Row) (key : Key) (rs : List Row) (q p : Queue) → Chain s past key q rs p → IsStocked q → Keeps q p
 chain_keeps s past key [] q p c k = keeps_same q p c k

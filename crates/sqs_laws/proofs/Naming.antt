@@ -1,16 +1,8 @@
 -- Rows that name a message, and what one more row makes of its flight.
 use Rattle.std.specs.Prelude.{Bool, List, None, Option, Some, [], cond, false, find, if◌then◌else◌, not, true, ◌&&◌, ◌++◌, ◌==◌, ◌∷◌, ◌≡◌, ◌≢◌, ◌||◌, All, slice_get, ℕ}
 use Rattle.std.proofs.Common.{ap, inl, inr, refl, ◌∙◌, sym, subst}
-use Rattle.std.proofs.Math.Bool.{and-false}
-use Rattle.std.proofs.lemmas.Bool.{eq-eqb, ne_eqb}
-use Rattle.std.proofs.lemmas.List.Sums.{fold-append}
-use Rattle.sqs_message.specs.declared.ids.MessageId.{MessageId}
-use Rattle.sqs_message.specs.declared.row.Row.{Row}
-use Rattle.sqs_model.specs.Accounts.{same_id, origin_in}
-use Rattle.sqs_model.proofs.Members.{In}
+use Rattle.sqs_laws.proofs.Terms.{All-get_or, and-false, eq-eqb, fold-append, get_or_from_slice_get, In, MessageId, ne_eqb, origin_in, Row, same_id, slice_get_within}
 use Rattle.sqs_laws.specs.Words.{changed, flight, is_release, leaves, names, received, last_naming, origin_of, comes}
-use Rattle.std.proofs.lemmas.List.Elements.{All-get_or}
-use Rattle.std.proofs.lemmas.Option.{get_or_from_slice_get, slice_get_within}
 
 -- a row that names one message names no other
 pub names_id : (m i : MessageId) (r : Row) → r.message ≡ Some i → names m r ≡ (m.site == i.site && m.number == i.number)
@@ -33,9 +25,6 @@ pub origin_as : (m : MessageId) (rows : List Row) (r : Row) (b : Bool) → (come
 origin_as m rows r b e =
     fold-append (λ o x. if comes x && names m x then origin_in x (Some m) else o) None rows (r ∷ [])
     ∙ ap (λ c. if c then origin_in r (Some m) else origin_of m rows) e
-
-pub same_origin : (m : MessageId) (rows : List Row) (r : Row) → comes r ≡ false → origin_of m (rows ++ r ∷ []) ≡ origin_of m rows
-same_origin m rows r e = origin_as m rows r false (rw e refl)
 
 -- a row names no message of another queue
 abbrev pub NamesOwn : Row → Type 0

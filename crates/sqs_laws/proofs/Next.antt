@@ -1,20 +1,7 @@
 -- Each message that a receive of a FIFO queue gives is the next of its group, behind the rows of those given before it.
 use Rattle.std.specs.Prelude.{Bool, List, Some, [], false, true, ℕ, ◌++◌, ◌<◌, ◌==◌, ◌∷◌, ◌≡◌, ◌≢◌, ◌⊎◌}
 use Rattle.std.proofs.Common.{ap, arith, inl, inr, refl, subst, sym, ◌∙◌}
-use Rattle.std.proofs.lemmas.Bool.{eqb-false, eqb-true}
-use Rattle.std.proofs.lemmas.List.Elements.{All-head, All-tail}
-use Rattle.sim_clock.specs.declared.key.Key.{Key}
-use Rattle.sqs_message.specs.declared.message.Message.{Message}
-use Rattle.sqs_message.specs.declared.row.Row.{Row}
-use Rattle.sqs_redrive.specs.declared.answers.Got.{Got}
-use Rattle.sqs_model.specs.Acts.{got_row}
-use Rattle.sqs_model.specs.Queue.{Queue, has_number, id_of, is_in_flight, numbered, same_group, same_text, with_change}
-use Rattle.sqs_model.specs.Receive.{received}
-use Rattle.sqs_model.specs.Site.{Core}
-use Rattle.sqs_model.proofs.Chosen.{Stand}
-use Rattle.sqs_model.proofs.Counts.{find_picked}
-use Rattle.sqs_model.proofs.Members.{In}
-use Rattle.sqs_model.proofs.Numbered.{Apart}
+use Rattle.sqs_laws.proofs.Terms.{All-head, All-tail, Apart, Core, eqb-false, eqb-true, find_picked, Got, got_row, has_number, id_of, In, is_in_flight, Key, Message, numbered, Queue, received, Row, same_group, same_text, Stand, with_change}
 use Rattle.sqs_laws.specs.Sends.{IsByCall}
 use Rattle.sqs_laws.specs.Laws.{is_fifo}
 use Rattle.sqs_laws.specs.Words.{flight}

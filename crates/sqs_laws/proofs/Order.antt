@@ -1,18 +1,9 @@
 -- Rows are in the order of time, none after the horizon.
-use Rattle.std.specs.Ordering.{is_lt, nat_cmp}
+use Rattle.sqs_laws.proofs.Terms.{All-cons, All-nil, is_lt, IsInOrder, IsRunOf, IsSoundScenario, Key, key_cmp, nat_cmp, Row, Run, Scenario, sound_simulated, sqs}
 use Rattle.std.specs.Prelude.{All, List, [], false, ◌++◌, ◌∷◌, ◌≡◌, ◌≤◌}
 use Rattle.std.proofs.Common.{arith, subst, sym}
-use Rattle.std.proofs.lemmas.List.Elements.{All-cons, All-nil}
-use Rattle.sim_clock.specs.declared.key.Key.{Key}
-use Rattle.sim_clock.specs.Order.{IsInOrder, key_cmp}
 use Rattle.sim_clock.proofs.Orderings.{key_not_less, then_not_less}
 use Rattle.sim_engine.specs.Merge.{row_cmp}
-use Rattle.sqs_message.specs.declared.row.Row.{Row}
-use Rattle.sqs_model.specs.Progress.{IsSoundScenario}
-use Rattle.sqs_model.specs.Run.{IsRunOf, Run}
-use Rattle.sqs_model.specs.Scenario.{Scenario}
-use Rattle.sqs_model.specs.Sqs.{sqs}
-use Rattle.sqs_model.proofs.Sites.{sound_simulated}
 use Rattle.sqs_laws.specs.Laws.{InTime}
 use Rattle.sqs_laws.proofs.Worlds.{RowLaw, every_row}
 

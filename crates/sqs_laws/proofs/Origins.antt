@@ -1,9 +1,7 @@
 -- Origins: a receive tells the origin with which its message came.
 use Rattle.std.specs.Prelude.{Some, ◌≡◌}
 use Rattle.std.proofs.Common.{subst, sym, ◌∙◌}
-use Rattle.sqs_model.specs.Queue.{id_of}
-use Rattle.sqs_model.specs.Run.{IsRunOf, Run}
-use Rattle.sqs_model.specs.Scenario.{Scenario}
+use Rattle.sqs_laws.proofs.Terms.{id_of, IsRunOf, Run, Scenario}
 use Rattle.sqs_laws.specs.Laws.{Origins}
 use Rattle.sqs_laws.specs.Words.{origin_of}
 use Rattle.sqs_laws.proofs.Moves.{as_told}

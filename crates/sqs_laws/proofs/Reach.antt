@@ -1,30 +1,16 @@
 -- Two scenarios that differ only out of reach of some queues run alike there.
-use Rattle.std.specs.List.{enumerate_from}
+use Rattle.sqs_laws.proofs.Terms.{Edge, edges, enumerate_from, filter-append, final_message, IsFine, IsRunOf, IsSoundScenario, IsSoundSetting, Message, messages_at, opening, opening_site, Queue, QueueSettings, Row, Run, Scenario, setting_of, Site, sound_setting, sources, sqs, sqs_laws}
 use Rattle.std.specs.Prelude.{Bool, List, None, Some, [], false, filter, flat_map, if◌then◌else◌, map, slice_get, suc, true, ℕ, ◌+◌, ◌++◌, ◌<◌, ◌==◌, ◌∷◌, ◌≡◌}
 use Rattle.std.proofs.Common.{ap, arith, refl, subst, sym, ◌∙◌}
-use Rattle.std.proofs.lemmas.List.Elements.{filter-append}
-use Rattle.sim_engine.specs.declared.edge.Edge.{Edge}
-use Rattle.sim_engine.specs.Laws.{IsSoundSetting}
 use Rattle.sim_engine.specs.Members.{In}
 use Rattle.sim_engine.specs.Parts.{is_of, part_of}
 use Rattle.sim_engine.specs.World.{IsWholeRun}
 use Rattle.sim_engine.proofs.Branches.{by_cases}
 use Rattle.sim_engine.proofs.Premises.{Premises}
-use Rattle.sqs_message.specs.declared.message.Message.{Message}
-use Rattle.sqs_message.specs.declared.row.Row.{Row}
-use Rattle.sqs_redrive.specs.declared.settings.QueueSettings.{QueueSettings}
 use Rattle.sqs_model.specs.declared.finals.FinalMessage.{FinalMessage}
 use Rattle.sqs_model.specs.Conditions.{sqs_conditions}
-use Rattle.sqs_model.specs.Finals.{final_message, finals_of, messages_at}
-use Rattle.sqs_model.specs.Progress.{IsSoundScenario}
-use Rattle.sqs_model.specs.Queue.{Queue}
-use Rattle.sqs_model.specs.Run.{IsRunOf, Run, setting_of}
-use Rattle.sqs_model.specs.Scenario.{Scenario, edges, opening, opening_site, sources}
-use Rattle.sqs_model.specs.Site.{Site}
-use Rattle.sqs_model.specs.Sqs.{sqs}
+use Rattle.sqs_model.specs.Finals.{finals_of}
 use Rattle.sqs_model.specs.Ways.{FitsWays, Leads, home_of}
-use Rattle.sqs_model.proofs.Instance.{sqs_laws}
-use Rattle.sqs_model.proofs.Sites.{IsFine, sound_setting}
 use Rattle.sqs_laws.specs.Reach.{DifferOutOfReach, IsSameAt, NoWayLeadsTo, left_at, rows_at}
 use Rattle.sqs_laws.proofs.Apart.{one_whole, part_is_run, part_run}
 

@@ -1,34 +1,13 @@
 -- Receipts: each receive gives a new one, and what a delete by one does follows from the rows before it.
-use Rattle.std.specs.Prelude.{All, Bool, Err, List, None, Ok, Option, Result, Some, false, if◌then◌else◌, drop, is_none, nat_le, nat_lt, not, slice_get, true, ℕ, ◌&&◌, ◌*◌, ◌+◌, ◌<◌, ◌==◌, ◌≡◌, ◌≢◌, ◌≤◌, ◌⊎◌, ◌^◌, ◌||◌}
+use Rattle.std.specs.Prelude.{All, Bool, Err, List, None, Ok, Option, Result, Some, false, if◌then◌else◌, drop, is_none, nat_le, nat_lt, not, true, ℕ, ◌&&◌, ◌*◌, ◌+◌, ◌<◌, ◌==◌, ◌≡◌, ◌≢◌, ◌≤◌, ◌⊎◌, ◌^◌, ◌||◌}
 use Rattle.std.specs.Str.{bytes_eq}
 use Rattle.std.proofs.Common.{ap, arith, inl, inr, refl, subst, sym, true≢false, ◌∙◌}
-use Rattle.std.proofs.lemmas.Bool.{and_parts, eq-eqb, eqb-false, eqb-true, leb-true}
-use Rattle.std.proofs.lemmas.Bool.Decides.{nat_tests}
-use Rattle.sim_clock.specs.declared.key.Key.{Key}
-use Rattle.sim_clock.specs.declared.refusal.Refusal.{Refusal}
+use Rattle.sqs_laws.proofs.Terms.{and_parts, change, change_done, change_found, change_here, delete_as, delete_fifo_here, delete_gone, delete_standard_here, Deleted, either, eq-eqb, eqb-false, eqb-true, Fifo, fits, id_of, in_flight_until, is_in_flight, IsQueueSettings, IsRunOf, Kept, Key, Kind, leb-true, Load, longest_timeout, may_be_given, Message, MessageId, nat_tests, numbered, numbers_in, Queue, read_receipt, Receipt, receipt_text, Refusal, released, removed, returned, Row, RowKind, Run, Scenario, Standard, with_change}
 use Rattle.sim_clock.specs.declared.refusal.Refusal.TheVariants as refusals
-use Rattle.sqs_message.specs.declared.ids.MessageId.{MessageId}
-use Rattle.sqs_message.specs.declared.ids.Receipt.{Receipt}
-use Rattle.sqs_message.specs.declared.message.Message.{Message}
-use Rattle.sqs_message.specs.declared.row.Row.{Row}
 use Rattle.sqs_message.specs.declared.row.RowAnswer.TheVariants as answers
-use Rattle.sqs_message.specs.declared.row.RowKind.{RowKind}
 use Rattle.sqs_message.specs.declared.row.RowKind.TheVariants as kinds
 use Rattle.sqs_message.specs.declared.row.RowReceipt.TheVariants as receipts
-use Rattle.sqs_message.specs.Ids.{fits, numbers_in, read_receipt, receipt_text}
-use Rattle.sqs_redrive.specs.declared.answers.Deleted.{Deleted}
-use Rattle.sqs_redrive.specs.declared.answers.Deleted.TheVariants.{Kept}
-use Rattle.sqs_redrive.specs.declared.settings.Kind.{Kind}
-use Rattle.sqs_redrive.specs.declared.settings.Kind.TheVariants.{Fifo, Standard}
-use Rattle.sqs_redrive.specs.declared.transfers.Load.{Load}
-use Rattle.sqs_model.specs.Calls.{change, change_done, change_found, change_here, delete_as, delete_fifo_here, delete_gone, delete_standard_here, in_flight_until, may_be_given, removed, returned}
-use Rattle.sqs_model.specs.Queue.{Queue, id_of, is_in_flight, numbered, with_change}
-use Rattle.sqs_model.specs.Return.{released}
-use Rattle.sqs_model.proofs.Branches.{either}
-use Rattle.sqs_model.specs.Run.{IsRunOf, Run}
-use Rattle.sqs_model.specs.Scenario.{Scenario}
-use Rattle.sqs_model.specs.Valid.{IsQueueSettings}
-use Rattle.sqs_laws.specs.Laws.{Known, Receipts, change_answer, delete_answer, fifo_at, is_fifo}
+use Rattle.sqs_laws.specs.Laws.{IsBadIfTooLong, Known, Receipts, change_answer, delete_answer, fifo_at, is_fifo}
 use Rattle.sqs_laws.specs.Words.{EachRow, comings, flying, has_left, is_change, is_delete, times}
 use Rattle.sqs_laws.specs.Words as words
 use Rattle.sqs_laws.proofs.Calls.{found_old}
@@ -36,7 +15,8 @@ use Rattle.sqs_laws.proofs.End as end
 use Rattle.sqs_laws.proofs.Flights as fly
 use Rattle.sqs_laws.proofs.Letters as letter
 use Rattle.sqs_laws.proofs.Slots.{of_there}
-use Rattle.sqs_laws.proofs.Moves.{Asks, AsksChange, AsksDelete, changed_answer, Does, IsStocked, Move, deleted_answer, as_told}
+use Rattle.sqs_laws.proofs.Moves.{Asks, AsksChange, AsksDelete, changed_answer, Does, IsBehind, IsStocked, Move, deleted_answer, as_told}
+use Rattle.sqs_laws.proofs.Traces.{fifo_there}
 use Rattle.sqs_laws.proofs.Worlds.{RowLaw, both, every_row_by}
 use Rattle.sqs_laws.proofs.Flights.{flies_of, rests_of}
 
@@ -59,10 +39,6 @@ counts_from_1 text x e = read_counts text (numbers_in (drop 2 text)) x e
 asked_by : (key : Key) (q : Queue) (r : Row) (k : RowKind) → is_delete k ≡ true → Asks key q r k → AsksDelete key q r
 asked_by key q r kinds.Delete e a = a
 asked_by key q r k e a = cc
-
-changed_by : (key : Key) (q : Queue) (r : Row) (k : RowKind) → is_change k ≡ true → Asks key q r k → AsksChange key q r
-changed_by key q r kinds.Change e a = a
-changed_by key q r k e a = cc
 
 -- the answer of a delete of a message that is there
 standard_answer : (q : Queue) (now : ℕ) (x : Receipt) (m : Message) (b c d : Bool) → nat_lt m.receives x.count ≡ b → nat_lt x.count m.receives ≡ c → (x.count == m.receives) ≡ d
@@ -90,11 +66,11 @@ answer_there : (fifo : Bool) (rows : List Row) (m : MessageId) (count got : ℕ)
 answer_there fifo rows m count got flies l t f = rw (l, t, f) refl
 
 module _ (s : Scenario) (v : All IsQueueSettings s.queues) where
-  abbrev told : RowLaw s
+  abbrev pub told : RowLaw s
   told = both s (end.the_end s) (both s (letter.letters s v) (fly.flights s))
 
-  module _ (rows : List Row) (key : Key) (q : Queue) (r : Row) (p : Queue) (d : Move key q r p) (k : IsStocked q) (h : told.Holds rows q) where
-    came : comings r.queue rows ≡ q.arrivals
+  module _ (rows : List Row) (key : Key) (q : Queue) (r : Row) (p : Queue) (d : Move key q r p) (o : IsBehind s rows q r p) (k : IsStocked q) (h : told.Holds rows q) where
+    pub came : comings r.queue rows ≡ q.arrivals
     came = ap (λ n. comings n rows) d.at_site ∙ h.0.0
 
     -- a receive
@@ -108,24 +84,18 @@ module _ (s : Scenario) (v : All IsQueueSettings s.queues) where
         ∙ ap (λ n. receipts.Made (record { site = n; number = x.number; count = times (id_of q x.number) rows + 1 })) (sym d.at_site)
         ∙ ap (λ y. receipts.Made (record { site = r.queue; number = y.number; count = times y rows + 1 })) i
 
-    -- the kind of its queue
-    fifo_is : fifo_at s r ≡ is_fifo q.settings.kind
-    fifo_is =
-        ap (λ n. elim (slice_get s.queues n) as (λ _. Bool) [ None ↦ false | Some x ↦ is_fifo x.kind ]) d.at_site
-        ∙ ap (λ o. elim o as (λ _. Bool) [ None ↦ false | Some x ↦ is_fifo x.kind ]) h.1.0.settings
-
     -- a known receipt, by a text that the row was asked by
     module _ (m : MessageId) (count : ℕ) (x : Known rows r m count) (text : List ℕ) (given : r.receipt ≡ receipts.Given text) where
-      known_read : read_receipt text ≡ Some (record { site = m.site; number = m.number; count = count })
+      pub known_read : read_receipt text ≡ Some (record { site = m.site; number = m.number; count = count })
       known_read = let same : receipts.Given x.text ≡ receipts.Given text = sym x.given ∙ given in let t : x.text ≡ text = cc in ap read_receipt (sym t) ∙ x.read
 
-      known_here : m.site ≡ q.site
+      pub known_here : m.site ≡ q.site
       known_here = x.here ∙ d.at_site
 
-      known_old : m.number < q.arrivals
+      pub known_old : m.number < q.arrivals
       known_old = let n : m.number < comings r.queue rows = x.came in omega (arith, came, n)
 
-      known_count : 1 ≤ count
+      pub known_count : 1 ≤ count
       known_count = counts_from_1 text (record { site = m.site; number = m.number; count = count }) known_read
 
     -- a delete by a receipt that was given, or is yet to come
@@ -133,13 +103,13 @@ module _ (s : Scenario) (v : All IsQueueSettings s.queues) where
       abbrev by : Receipt
       by = record { site = m.site; number = m.number; count = count }
 
-      is_id : id_of q m.number ≡ m
+      pub is_id : id_of q m.number ≡ m
       is_id = ap (λ n. record { site = n; number = m.number }) (sym here)
 
       left_is : has_left m rows ≡ is_none (numbered m.number q.records)
       left_is = subst (λ x. has_left x rows ≡ is_none (numbered m.number q.records)) is_id (end.left_of s rows q h.0.1 m.number old)
 
-      given : may_be_given q by ≡ true
+      pub given : may_be_given q by ≡ true
       given = rw here (let one : nat_lt 0 count ≡ true = grind (arith, nat_tests, first) in rw (eq-eqb q.site q.site refl, one) refl)
 
       there : (one : Message) → numbered m.number q.records ≡ Some one → (fifo : Bool) → delete_answer fifo rows m count
@@ -176,7 +146,7 @@ module _ (s : Scenario) (v : All IsQueueSettings s.queues) where
         let a : AsksDelete key q r = asked_by key q r r.kind t d.asked in
         a.by (record { site = m.site; number = m.number; count = count }) (known_read m count x a.text a.given)
         ∙ told_as m count (known_here m count x a.text a.given) (known_old m count x a.text a.given) (known_count m count x a.text a.given) q.settings.kind
-        ∙ ap (λ b. delete_answer b rows m count) (sym fifo_is)
+        ∙ ap (λ b. delete_answer b rows m count) (sym (fifo_there s r q d.at_site h.1.0.settings))
 
     -- a change
     module _ (m : MessageId) (count timeout : ℕ) (here : m.site ≡ q.site) (old : m.number < q.arrivals) (first : 1 ≤ count) where
@@ -242,10 +212,14 @@ module _ (s : Scenario) (v : All IsQueueSettings s.queues) where
           subst (λ b. Answers (if b then found else (Err refusals.ReceiptHandleIsInvalid, q))) (sym (given m count here old first)) (found_answers (numbered m.number q.records) refl) in
           either Answers (nat_lt 43200 timeout) (Err refusals.BadTimeout, q) (if may_be_given q with_count then found else (Err refusals.ReceiptHandleIsInvalid, q)) (inr refl) taken
 
+    -- what was asked of the queue then
+    asked_now : (a : AsksChange s q r) (x : Receipt) → read_receipt a.text ≡ Some x → r.answer ≡ changed_answer (change q key.at x a.timeout).0
+    asked_now a x e = subst (λ (y : Key). r.answer ≡ changed_answer (change q y.at x a.timeout).0) d.at_key (a.by x e)
+
     changes_by : is_change r.kind ≡ true → (m : MessageId) (count : ℕ) → Known rows r m count → (r.answer ≡ change_answer rows m count) ⊎ (r.answer ≡ answers.Refused refusals.BadTimeout)
     changes_by t m count x =
-        let a : AsksChange key q r = changed_by key q r r.kind t d.asked in
-        let told : r.answer ≡ changed_answer (change q key.at (record { site = m.site; number = m.number; count = count }) a.timeout).0 = a.by (record { site = m.site; number = m.number; count = count }) (known_read m count x a.text a.given) in
+        let a : AsksChange s q r = o.asks t in
+        let told : r.answer ≡ changed_answer (change q key.at (record { site = m.site; number = m.number; count = count }) a.timeout).0 = asked_now a (record { site = m.site; number = m.number; count = count }) (known_read m count x a.text a.given) in
         elim (change_answers m count a.timeout (known_here m count x a.text a.given) (known_old m count x a.text a.given) (known_count m count x a.text a.given)) as (λ _. (r.answer ≡ change_answer rows m count) ⊎ (r.answer ≡ answers.Refused refusals.BadTimeout)) [
           | inl e ↦ inl (told ∙ e)
           | inr e ↦ inr (told ∙ e)
@@ -276,13 +250,13 @@ module _ (s : Scenario) (v : All IsQueueSettings s.queues) where
     early_found x timeout l (Some one) f = let old : x.number < q.arrivals = found_old q x.number one k f in absurd (grind (arith, nat_tests, l, old))
 
     -- a change that no receipt of the queue asks for
-    change_refused : (t : is_change r.kind ≡ true) (a : AsksChange key q r) (x : Receipt) → read_receipt a.text ≡ Some x
+    change_refused : (t : is_change r.kind ≡ true) (a : AsksChange s q r) (x : Receipt) → read_receipt a.text ≡ Some x
         → changed_answer (if may_be_given q x then change_found q key.at x a.timeout (numbered x.number q.records) else (Err refusals.ReceiptHandleIsInvalid, q)).0 ≡ answers.Refused refusals.ReceiptHandleIsInvalid → IsRefused
     change_refused t a x e g =
         let found : Result (Option Load) Refusal × Queue = if may_be_given q x then change_found q key.at x a.timeout (numbered x.number q.records) else (Err refusals.ReceiptHandleIsInvalid, q) in
         let either_way : (changed_answer (change q key.at x a.timeout).0 ≡ answers.Refused refusals.ReceiptHandleIsInvalid) ⊎ (changed_answer (change q key.at x a.timeout).0 ≡ answers.Refused refusals.BadTimeout) =
         either (λ (y : Result (Option Load) Refusal × Queue). (changed_answer y.0 ≡ answers.Refused refusals.ReceiptHandleIsInvalid) ⊎ (changed_answer y.0 ≡ answers.Refused refusals.BadTimeout)) (nat_lt 43200 a.timeout) (Err refusals.BadTimeout, q) found (inr refl) (inl g) in
-        elim either_way as (λ _. IsRefused) [ inl y ↦ inl (a.by x e ∙ y) | inr y ↦ inr (t, a.by x e ∙ y) ]
+        elim either_way as (λ _. IsRefused) [ inl y ↦ inl (asked_now a x e ∙ y) | inr y ↦ inr (t, asked_now a x e ∙ y) ]
 
     -- what was asked, by a text
     pub record Asked : Type 0 where
@@ -305,11 +279,11 @@ module _ (s : Scenario) (v : All IsQueueSettings s.queues) where
 
     asked_change : is_change r.kind ≡ true → Asked
     asked_change t =
-        let a : AsksChange key q r = changed_by key q r r.kind t d.asked in
+        let a : AsksChange s q r = o.asks t in
         record {
           text = a.text;
           given = a.given;
-          none = λ e. elim (a.none e) as (λ _. IsRefused) [ inl y ↦ inl y | inr y ↦ inr (t, y) ];
+          none = λ e. either (λ f. r.answer ≡ answers.Refused f → IsRefused) (nat_lt longest_timeout a.timeout) refusals.BadTimeout refusals.ReceiptHandleIsInvalid (λ y. inr (t, y)) (λ y. inl y) (a.none e);
           foreign = λ x e g. change_refused t a x e (rw g refl);
           early = λ x e g l. change_refused t a x e (rw g (early_found x a.timeout l (numbered x.number q.records) refl));
         }
@@ -337,11 +311,12 @@ module _ (s : Scenario) (v : All IsQueueSettings s.queues) where
     others_by false e t = let a : Asked = asked_change (ap (λ b. b || is_change r.kind) (sym e) ∙ t) in other_read (read_receipt a.text) a refl
 
   -- the law
-  pub receipts_are_known : (x : Run) → IsRunOf s x → Receipts s x.rows
-  receipts_are_known x is =
+  pub receipts_are_known : (x : Run) → IsRunOf s x → EachRow x.rows (λ before r. is_change r.kind ≡ true → IsBadIfTooLong s before r) → Receipts s x.rows
+  receipts_are_known x is timeouts =
       record {
-        made = every_row_by s told _ (λ rows key q r p now d g k h j. made_by rows key q r p d k h d.does) x is;
-        deletes = every_row_by s told _ (λ rows key q r p now d g k h j. deletes_by rows key q r p d k h) x is;
-        changes = every_row_by s told _ (λ rows key q r p now d g k h j. changes_by rows key q r p d k h) x is;
-        others = every_row_by s told _ (λ rows key q r p now d g k h j t. others_by rows key q r p d k h (is_delete r.kind) refl t) x is;
+        made = every_row_by s told _ (λ rows key q r p now d g k h j. made_by rows key q r p d g k h d.does) x is;
+        deletes = every_row_by s told _ (λ rows key q r p now d g k h j. deletes_by rows key q r p d g k h) x is;
+        changes = every_row_by s told _ (λ rows key q r p now d g k h j. changes_by rows key q r p d g k h) x is;
+        timeouts = timeouts;
+        others = every_row_by s told _ (λ rows key q r p now d g k h j t. others_by rows key q r p d g k h (is_delete r.kind) refl t) x is;
       }

@@ -1,47 +1,34 @@
 -- Releases: a message in flight comes back exactly at the end of the timeout of its last receive or change.
 use Rattle.std.specs.Prelude.{All, Bool, List, None, Option, Some, [], false, nat_lt, slice_get, true, ℕ, ◌&&◌, ◌*◌, ◌+◌, ◌++◌, ◌∷◌, ◌≡◌, ◌≤◌, ◌||◌}
 use Rattle.std.proofs.Common.{ap, arith, inl, inr, refl, subst, sym, true≢false, ◌∙◌, true≢false}
-use Rattle.std.proofs.Math.Bool.{and-false}
-use Rattle.std.proofs.lemmas.List.{append-nil, append_assoc}
-use Rattle.sim_clock.specs.declared.key.Key.{Key}
-use Rattle.sqs_message.specs.declared.calls.ScriptCall.{ScriptCall}
-use Rattle.sqs_message.specs.declared.ids.MessageId.{MessageId}
-use Rattle.sqs_message.specs.declared.message.Message.{Message}
+use Rattle.sqs_model.specs.Receive.{is_bad_timeout}
+use Rattle.sqs_laws.proofs.Terms.{and-false, append-nil, append_assoc, id_of, in_flight_until, is_in_flight, IsQueueSettings, IsRunOf, IsSoundScenario, Key, longest_flight, longest_timeout, Message, MessageId, nat_tests, numbered, of_all, Queue, QueueSettings, received, Row, Run, Scenario, ScriptCall}
 use Rattle.sqs_message.specs.declared.row.Detail.TheVariants as details
-use Rattle.sqs_message.specs.declared.row.Row.{Row}
-use Rattle.sqs_redrive.specs.declared.settings.QueueSettings.{QueueSettings}
-use Rattle.sqs_model.specs.Calls.{in_flight_until}
-use Rattle.sqs_model.specs.Progress.{IsSoundScenario}
-use Rattle.sqs_model.specs.Queue.{Queue, id_of, is_in_flight, numbered}
-use Rattle.sqs_model.specs.Receive.{received}
-use Rattle.sqs_model.specs.Run.{IsRunOf, Run}
-use Rattle.sqs_model.specs.Scenario.{Scenario}
-use Rattle.sqs_model.proofs.Members.{of_all}
 use Rattle.sqs_laws.specs.Laws.{EndsAt, Releases as Law}
 use Rattle.sqs_laws.specs.Sends.{MayGiveAt, milliseconds_or}
-use Rattle.sqs_laws.specs.Words.{EachRow, flight, flying, is_release, is_redrive, names, received_by}
+use Rattle.sqs_laws.specs.Words.{EachRow, flight, is_release, is_redrive, names, received_by}
 use Rattle.sqs_laws.specs.Words as words
 use Rattle.sqs_laws.proofs.Lasts.{IsLast, last_of}
 use Rattle.sqs_laws.proofs.Moments.{timely_at}
 use Rattle.sqs_laws.proofs.Moves.{Does, IsAskedFor, IsCalled, IsStocked, Move, Names, Tells, asks_as, changes, comes, ends, receives, redrives, releases, stays, waits_rest, as_told}
 use Rattle.sqs_laws.proofs.Flights.{flight_now, flight_over, flight_quiet}
-use Rattle.sqs_laws.proofs.Naming.{flight_stays}
+use Rattle.sqs_laws.proofs.Naming.{at_place, flight_stays}
 use Rattle.sqs_laws.proofs.Order.{rows_in_time}
 use Rattle.sqs_laws.proofs.Said.{last_as, names_same, none_leaves}
 use Rattle.sqs_laws.proofs.Slots.{Holds, MessageLaw, Slot, by_messages, gone, of_there, slot_of, there, unborn}
 use Rattle.sqs_laws.proofs.Worlds.{IsNow, every_row_by}
 
 -- the last receive of a message that is in flight
-abbrev WasReceived : List Row → MessageId → Slot → Type 0
+abbrev pub WasReceived : List Row → MessageId → Slot → Type 0
 WasReceived rows i (there m) = is_in_flight m ≡ true → (f : Row) × (received_by i rows ≡ Some f) × (f.key.at ≡ m.received)
 WasReceived rows i x = Unit {0}
 
-received_still : (rows : List Row) (r : Row) (i : MessageId) (x : Slot) → (words.received r && names i r) ≡ false → WasReceived rows i x → WasReceived (rows ++ r ∷ []) i x
+pub received_still : (rows : List Row) (r : Row) (i : MessageId) (x : Slot) → (words.received r && names i r) ≡ false → WasReceived rows i x → WasReceived (rows ++ r ∷ []) i x
 received_still rows r i (there m) e h = λ t. let x = h t in (x.0, last_as words.received i rows r false e ∙ x.1, x.2)
 received_still rows r i gone e h = tt
 received_still rows r i unborn e h = tt
 
-abbrev receipt_law : (s : Scenario) → MessageLaw s
+abbrev pub receipt_law : (s : Scenario) → MessageLaw s
 receipt_law s =
     record {
       Said = λ q rows i x. WasReceived rows i x;
@@ -173,8 +160,13 @@ module _ (s : Scenario) where
               (x.2.0, x.2.1, omega (arith, late, at_now));
         }
 
+  -- a timeout of a receive that is not refused is at most 12 hours
+  within : (visibility : ℕ) (timeout : Option ℕ) → visibility ≤ 1000 * longest_timeout → is_bad_timeout timeout ≡ false → milliseconds_or visibility timeout ≤ longest_flight
+  within visibility None l b = omega (arith, l)
+  within visibility (Some seconds) l b = let few : seconds ≤ 43200 = grind (arith, nat_tests, b) in omega (arith, few)
+
   -- a call that a row tells of, or that is made now, was made by now
-  module _ (total : List Row) (order : EachRow total (λ before r. All (λ x. x.key.at ≤ r.key.at) before)) where
+  module _ (valid : All IsQueueSettings s.queues) (total : List Row) (order : EachRow total (λ before r. All (λ x. x.key.at ≤ r.key.at) before)) where
     ends_at : (rows more : List Row) (f : Row) (end : ℕ) → total ≡ rows ++ more → Began rows f end → EndsAt s f end
     ends_at rows more f end e b =
         let whole : total ≡ b.before ++ (f ∷ (b.after ++ more)) = e ∙ ap (λ x. x ++ more) b.split ∙ append_assoc b.before (f ∷ b.after) more in
@@ -184,6 +176,11 @@ module _ (s : Scenario) where
               let x = b.by_receive t in
               let asked = x.3 in
               (x.0, x.1, x.2, (asked.0, asked.1, asks_as (IsCalled b.before f.key.at x.1) (MayGiveAt f.key.at x.1) (λ c y. made c x.1 y earlier) asked.0.role x.1 asked.2), x.4);
+          at_most = λ t.
+              let x = b.by_receive t in
+              let own : IsQueueSettings x.0 = at_place IsQueueSettings s.queues f.queue x.0 valid x.2 in
+              let most : milliseconds_or x.0.visibility x.1 ≤ longest_flight = within x.0.visibility x.1 own.visibility x.3.3 in
+              omega (arith, x.4, most);
           by_change = b.by_change;
         }
       where
@@ -198,13 +195,13 @@ module _ (s : Scenario) where
             }
 
   -- the law
-  pub releases_are_kept : IsSoundScenario s → (x : Run) → IsRunOf s x → Law s x.rows
-  releases_are_kept sound x is =
+  pub releases_are_kept : All IsQueueSettings s.queues → IsSoundScenario s → (x : Run) → IsRunOf s x → Law s x.rows
+  releases_are_kept valid sound x is =
       let order = (rows_in_time s sound x is).order in
       let each : EachRow x.rows IsAsTold = every_row_by s (by_messages s flown) IsAsTold (λ rows key q r p now d g k h j. tells_by rows key q r p now d k h) x is in
       record {
-        ends = λ before r after e m i t f g. ends_at x.rows order before (r ∷ after) f r.key.at e ((each before r after e).ends m i t f g);
-        goes_on = λ before r after e m f i g. let y = (each before r after e).goes_on m f i g in (y.0, ends_at x.rows order before (r ∷ after) f y.0 e y.1, y.2);
+        ends = λ before r after e m i t f g. ends_at valid x.rows order before (r ∷ after) f r.key.at e ((each before r after e).ends m i t f g);
+        goes_on = λ before r after e m f i g. let y = (each before r after e).goes_on m f i g in (y.0, ends_at valid x.rows order before (r ∷ after) f y.0 e y.1, y.2);
         longest =
             every_row_by s (by_messages s (receipt_law s)) _
             (λ rows key q r p now d g k h j m e t seconds f.
@@ -220,5 +217,5 @@ module _ (s : Scenario) where
             let same : id_of w m.number ≡ m = ap (λ n. record { site = n; number = m.number }) y.number in
             let z = flown_by x.rows (id_of w m.number) (numbered m.number w.records) (nat_lt m.number w.arrivals) f (y.good.holds.each m.number) (subst (λ j. flight j x.rows ≡ Some f) (sym same) g) in
             let late : s.horizon + 1 ≤ z.2.0 = timely_at (s.horizon + 1) w m.number z.0 z.2.0 y.timely z.1 z.2.2 in
-            (z.2.0, ends_at x.rows order x.rows [] f z.2.0 (sym (append-nil x.rows)) z.2.1, omega (arith, late));
+            (z.2.0, ends_at valid x.rows order x.rows [] f z.2.0 (sym (append-nil x.rows)) z.2.1, omega (arith, late));
       }

@@ -1,23 +1,11 @@
 -- Retention: a message expires exactly at the end of its retention, and a delete or an expiry tells its age.
 use Rattle.std.specs.Prelude.{All, Bool, List, None, Option, Some, [], false, max, nat_lt, slice_get, true, ℕ, ◌&&◌, ◌+◌, ◌-◌, ◌++◌, ◌<◌, ◌∷◌, ◌≡◌, ◌≤◌, ◌⊎◌, ◌||◌}
 use Rattle.std.proofs.Common.{ap, arith, inl, inr, refl, subst, sym, true≢false, ◌∙◌}
-use Rattle.std.proofs.Math.Bool.{and-false, or-true}
+use Rattle.sqs_laws.proofs.Terms.{and-false, eqb-true, find_all, find_picked, has_number, id_of, In, in_left, in_right, is_deleted, is_expired, IsRunOf, IsSoundScenario, IsSoundSettings, Key, Message, MessageId, numbered, of_all, or-true, Queue, QueueSettings, Row, Run, Scenario}
 use Rattle.std.proofs.Math.Nat.{le-max_left, le-max_right, max-eq_left, max-eq_right}
-use Rattle.sim_clock.specs.declared.key.Key.{Key}
-use Rattle.sqs_message.specs.declared.ids.MessageId.{MessageId}
-use Rattle.sqs_message.specs.declared.message.Message.{Message}
 use Rattle.sqs_message.specs.declared.row.Detail.TheVariants as details
-use Rattle.sqs_message.specs.declared.row.Row.{Row}
-use Rattle.sqs_redrive.specs.declared.settings.QueueSettings.{QueueSettings}
-use Rattle.sqs_model.specs.Accounts.{is_deleted, is_expired}
-use Rattle.sqs_model.specs.Progress.{IsSoundScenario, IsSoundSettings}
-use Rattle.sqs_model.specs.Queue.{Queue, has_number, id_of, numbered}
-use Rattle.sqs_model.specs.Run.{IsRunOf, Run}
-use Rattle.sqs_model.specs.Scenario.{Scenario}
-use Rattle.sqs_model.proofs.Counts.{find_all, find_picked}
-use Rattle.sqs_model.proofs.Members.{In, in_left, in_right, of_all}
 use Rattle.sqs_laws.specs.Laws.{EnqueuedAt, IsKeptUntil, Retention, TellsAge}
-use Rattle.sqs_laws.specs.Words.{EachRow, came_by, has_left, names}
+use Rattle.sqs_laws.specs.Words.{came_by, has_left, names}
 use Rattle.sqs_laws.specs.Words as words
 use Rattle.sqs_laws.proofs.Lasts.{IsLast, last_of}
 use Rattle.sqs_laws.proofs.Moves.{CameNow, IsEnd}
@@ -26,7 +14,6 @@ use Rattle.sqs_laws.proofs.Said.{last_as, left_as, left_now, names_same}
 use Rattle.sqs_laws.proofs.Slots.{IsStep, MessageLaw, Slot, by_messages, gone, slot, slot_of, there, unborn}
 use Rattle.sqs_laws.proofs.Traces.{comes_since, since_later}
 use Rattle.sqs_laws.proofs.Worlds.{EachAfter, each_append, each_row}
-use Rattle.std.proofs.lemmas.Bool.{eqb-true}
 use Rattle.sqs_laws.proofs.Naming.{at_place}
 
 -- what a row tells of a message that came by another one and is there

@@ -2,95 +2,52 @@
 use Rattle.std.specs.Str.{bytes_eq}
 use Rattle.std.specs.Prelude.{All, Bool, Err, List, None, Ok, Option, Result, Some, [], false, get_or, if◌then◌else◌, length, nat_lt, take, true, ℕ, ◌&&◌, ◌*◌, ◌+◌, ◌++◌, ◌<◌, ◌==◌, ◌∷◌, ◌≡◌, ◌≢◌, ◌||◌, ◌-◌, ◌≤◌, not, nat_le, slice_get}
 use Rattle.std.proofs.Common.{ap, arith, inl, inr, refl, subst, sym, true≢false, ◌∙◌}
-use Rattle.std.proofs.lemmas.Bool.{and_parts, eqb-true, leb-true}
-use Rattle.std.proofs.lemmas.Bool.Decides.{nat_tests}
-use Rattle.std.proofs.lemmas.List.Elements.{All-cons, All-filter, All-head, All-nil, All-push, All-tail, All-take, All-weaker}
-use Rattle.sim_clock.specs.declared.key.Key.{Key}
-use Rattle.sim_clock.specs.declared.refusal.Refusal.{Refusal}
+use Rattle.sqs_laws.proofs.Terms.{Actor, All-cons, All-filter, All-head, All-nil, All-push, All-tail, All-take, All-weaker, all_available, all_changed, all_hosts, all_in, and_parts, and_then, Apart, append_assoc, arrival_done, arrival_row, arrived, brought, came_back, change, change_answered, change_found, change_made, change_row, changed_twice, Core, deduplication_id, deduplication_interval, delay_of, delete, delete_done, delete_made, Deleted, destination, drawn_latency, Effect, either, either_by, end_row, enqueued_at, Entry, eqb-true, expired_found, expiry_done, Fifo, find_all, find_picked, first_apart, first_stand, Forward, forwarded, forwarded_group, forwards_made, handle_expiry, handle_step, has_number, id_of, id_text, In, in_append, in_flight_until, in_found, in_left, in_right, into_filter, is_bad_delay, is_deleted, is_expired, is_in_flight, is_task, is_too_old, is_visible, IsFound, IsNameless, IsSoundRole, Key, Kind, leaves, leb-true, living, living_entries, Load, load_age, load_origin, longest_flight, longest_timeout, may_be_given, Message, MessageId, Moved, moves, nat_tests, new_message, number_of, numbered, of_all, one_sent, origin_in, other_without, Outbound, Policy, Queue, read_receipt, Receipt, Redrive, redrive_of, Refusal, release_done, released, released_found, released_when, returned, Row, RowAnswer, RowKind, same_text, same_text_decides, says, Scenario, scope_of, send_made, send_unless, send_with, sends, Sent, sent_of, serve_made, settled_when, Stand, Standard, take_each, take_movable, Taken, taken_one, taken_out, Task, task_stepped, TellsOfNone, visible_again, with_change, with_entry, with_message, with_queue, with_records, without_changed}
 use Rattle.sim_clock.specs.declared.refusal.Refusal.TheVariants as refusals
-use Rattle.sqs_message.specs.declared.ids.MessageId.{MessageId}
-use Rattle.sqs_message.specs.declared.ids.Receipt.{Receipt}
-use Rattle.sqs_message.specs.declared.message.Message.{Message}
 use Rattle.sqs_message.specs.declared.row.Detail.TheVariants as details
-use Rattle.sqs_message.specs.declared.row.Row.{Row}
-use Rattle.sqs_message.specs.declared.row.RowAnswer.{RowAnswer}
 use Rattle.sqs_message.specs.declared.row.RowAnswer.TheVariants as answers
-use Rattle.sqs_message.specs.declared.row.RowKind.{RowKind}
 use Rattle.sqs_message.specs.declared.row.RowKind.TheVariants as kinds
 use Rattle.sqs_message.specs.declared.row.RowReceipt.TheVariants as receipts
-use Rattle.sqs_message.specs.Ids.{id_text, read_receipt}
-use Rattle.sqs_redrive.specs.declared.answers.Deleted.{Deleted}
-use Rattle.sqs_redrive.specs.declared.answers.Sent.{Sent}
 use Rattle.sqs_redrive.specs.declared.answers.Sent.TheVariants.{New}
-use Rattle.sqs_redrive.specs.declared.settings.Kind.{Kind}
-use Rattle.sqs_redrive.specs.declared.settings.Kind.TheVariants.{Fifo, Standard}
-use Rattle.sqs_redrive.specs.declared.settings.Policy.{Policy}
 use Rattle.sqs_redrive.specs.declared.settings.Scope.{Scope}
-use Rattle.sqs_redrive.specs.declared.transfers.Load.{Load}
-use Rattle.sqs_redrive.specs.declared.transfers.Load.TheVariants.{Forward, Move as Moves, Redrive}
-use Rattle.sqs_redrive.specs.declared.transfers.Outbound.{Outbound}
-use Rattle.sqs_model.specs.Accounts.{is_deleted, is_expired, origin_in}
-use Rattle.sqs_model.specs.Acts.{change_answered, change_made, change_row, came_back, delete_done, delete_made, forwards_made, send_made, sends, serve_made}
-use Rattle.sqs_model.specs.Actor.{Actor}
-use Rattle.sqs_model.specs.Calls.{change, change_found, may_be_given, deduplication_id, delay_of, delete, in_flight_until, is_bad_delay, living, living_entries, new_message, returned, scope_of, send_unless, send_with, with_entry, with_message}
-use Rattle.sqs_model.specs.Queue.{Entry, Queue, has_number, id_of, is_in_flight, is_visible, numbered, same_text, taken_out, with_change, with_records}
-use Rattle.sqs_model.specs.Return.{leaves, redrive_of, released, released_found, released_when, visible_again}
+use Rattle.sqs_redrive.specs.declared.transfers.Load.TheVariants.{Move as Moves}
 use Rattle.std.specs.Cmp.Lexicographic.{bytes_decides}
 use Rattle.sqs_redrive.specs.declared.settings.Scope.TheVariants as scopes
-use Rattle.sqs_model.specs.Progress.{IsSoundRole}
-use Rattle.sqs_model.specs.Scenario.{Scenario}
-use Rattle.sqs_model.specs.Longest.{longest_flight, longest_timeout}
-use Rattle.sqs_model.specs.Texts.{same_text_decides}
-use Rattle.sqs_model.specs.Site.{Core, Effect, and_then, is_task, number_of, says, with_queue}
-use Rattle.sqs_model.specs.Arrive.{arrived, brought, enqueued_at, expired_found, forwarded, forwarded_group, is_too_old, sent_of, settled_when}
-use Rattle.sqs_model.specs.Step.{Moved, arrival_done, end_row, load_age, load_origin, handle_step, moves, one_sent, expiry_done, handle_expiry, release_done, arrival_row}
-use Rattle.sqs_model.specs.Available.{all_available, all_hosts}
-use Rattle.sqs_model.specs.Draw.{drawn_latency}
-use Rattle.sqs_model.specs.Task.{Taken, Task, destination, take_each, take_movable, taken_one}
-use Rattle.sqs_redrive.specs.MoveTasks.{task_stepped}
 use Rattle.sqs_redrive.specs.declared.answers.Rest.{Rest}
 use Rattle.sqs_redrive.specs.declared.answers.Rest.TheVariants.{Empty, More, NoSource}
-use Rattle.sqs_model.proofs.Chosen.{Stand, first_apart, first_stand}
-use Rattle.sqs_model.proofs.Numbered.{Apart, other_without}
 use Rattle.sqs_model.proofs.Answered.{change_by, delete_by}
-use Rattle.sqs_model.proofs.Branches.{either, either_by}
-use Rattle.sqs_model.proofs.CallWalk.{IsNameless, TellsOfNone}
-use Rattle.sqs_model.proofs.Counts.{all_changed, changed_twice, find_all, find_picked, without_changed}
-use Rattle.sqs_model.proofs.Members.{In, all_in, in_append, of_all}
-use Rattle.sqs_model.proofs.SiteAccounts.{IsFound}
-use Rattle.sqs_laws.specs.Sends.{Given, GivesAs, delay_given, key_given, milliseconds_or, scope_given}
+use Rattle.sqs_laws.specs.Sends.{AsksToChangeAs, Given, GivesAs, delay_given, key_given, milliseconds_or, scope_given}
 use Rattle.sqs_laws.specs.Laws.{is_fifo}
 use Rattle.sqs_laws.specs.Words as words
 use Rattle.sqs_laws.proofs.Calls.{Told, back_told, found_old, one_back, own_changed, pushed_out, tells, Returns}
 use Rattle.sqs_laws.proofs.Gives.{Gives}
 use Rattle.sqs_laws.proofs.Giving.{visible_available}
 use Rattle.sqs_laws.proofs.Naming.{found_in, last_as, names_same}
-use Rattle.sqs_laws.proofs.Moves.{FitsSender, HasKey, Asks, AsksChange, AsksDelete, Chain, IsEntered, IsGiven, IsNoReceipt, IsBehind, RepeatsEntry, changed_answer, deleted_answer, chain_keeps, Does, IsStocked, Keeps, Move, Stays, Tells, Waits, changes, chain_append, comes, ends, of_none, one_move, stays, actors_of, tells_none, AreTraced, IsBrought, IsMadeBy, of_one, OfGroup}
+use Rattle.sqs_laws.proofs.Moves.{FitsSender, HasKey, Asks, AsksChange, AsksDelete, AreEntered, Chain, IsEntered, IsGiven, IsBehind, RepeatsEntry, changed_answer, deleted_answer, chain_keeps, Does, IsStocked, Keeps, Move, Stays, Tells, Waits, changes, chain_append, comes, ends, of_none, one_move, stays, actors_of, tells_none, AreTraced, IsBrought, IsMadeBy, of_one, OfGroup}
 use Rattle.sqs_laws.proofs.Traces.{chain_traces, pushed_found, group_later, traced_of}
-use Rattle.std.proofs.lemmas.List.{append_assoc}
 
 -- what a row of none tells
 abbrev SaysNothing : RowKind → RowAnswer → Type 0
 SaysNothing k a =
     (words.is_new a ≡ false) × ((words.is_receive k && words.is_ok a) ≡ false) × ((words.is_change k && words.is_ok a) ≡ false) × (words.is_release k ≡ false)
-    × ((is_deleted a || is_expired a || words.is_redrive k || words.is_move k) ≡ false) × (words.is_repeat a ≡ false)
+    × ((is_deleted a || is_expired a || words.is_redrive k || words.is_move k) ≡ false) × (words.is_repeat a ≡ false) × (words.is_change k ≡ false)
 
 says_nothing : (k : RowKind) (a : RowAnswer) → TellsOfNone k a → SaysNothing k a
-says_nothing kinds.Receive answers.Empty t = (refl, refl, refl, refl, refl, refl)
-says_nothing kinds.Receive answers.Wait t = (refl, refl, refl, refl, refl, refl)
-says_nothing kinds.Receive (answers.Refused x) t = (refl, refl, refl, refl, refl, refl)
-says_nothing kinds.Start answers.Ok t = (refl, refl, refl, refl, refl, refl)
-says_nothing kinds.Start (answers.Refused x) t = (refl, refl, refl, refl, refl, refl)
-says_nothing kinds.Cancel answers.Ok t = (refl, refl, refl, refl, refl, refl)
-says_nothing kinds.Cancel (answers.Refused x) t = (refl, refl, refl, refl, refl, refl)
-says_nothing kinds.Scale answers.Ok t = (refl, refl, refl, refl, refl, refl)
-says_nothing kinds.Sample answers.Ok t = (refl, refl, refl, refl, refl, refl)
+says_nothing kinds.Receive answers.Empty t = (refl, refl, refl, refl, refl, refl, refl)
+says_nothing kinds.Receive answers.Wait t = (refl, refl, refl, refl, refl, refl, refl)
+says_nothing kinds.Receive (answers.Refused x) t = (refl, refl, refl, refl, refl, refl, refl)
+says_nothing kinds.Start answers.Ok t = (refl, refl, refl, refl, refl, refl, refl)
+says_nothing kinds.Start (answers.Refused x) t = (refl, refl, refl, refl, refl, refl, refl)
+says_nothing kinds.Cancel answers.Ok t = (refl, refl, refl, refl, refl, refl, refl)
+says_nothing kinds.Cancel (answers.Refused x) t = (refl, refl, refl, refl, refl, refl, refl)
+says_nothing kinds.Scale answers.Ok t = (refl, refl, refl, refl, refl, refl, refl)
+says_nothing kinds.Sample answers.Ok t = (refl, refl, refl, refl, refl, refl, refl)
 says_nothing k a t = absurd t
 
 -- it asks nothing of a message
 asks_none : (key : Key) (q : Queue) (r : Row) (k : RowKind) (a : RowAnswer) → TellsOfNone k a → Asks key q r k
 asks_none key q r kinds.Delete a t = absurd t
-asks_none key q r kinds.Change a t = absurd t
+asks_none key q r kinds.Send a t = absurd t
 asks_none key q r k a t = tt
 
 -- a row that names no message changes nothing
@@ -115,7 +72,7 @@ quiet_move key c q r e i =
 
 pub nameless_none : (u : Scenario) (past : List Row) {key : Key} {c : Core} (q : Queue) (r : Row) → IsNameless key c r → IsBehind u past q r q
 nameless_none u past q r i =
-    let n : SaysNothing r.kind r.answer = says_nothing r.kind r.answer i.kind in tells_none u past q r q (tells r false false false false false n.0 n.1 n.2 n.3 n.4) n.5
+    let n : SaysNothing r.kind r.answer = says_nothing r.kind r.answer i.kind in tells_none u past q r q (λ e. absurd (true≢false (sym e ∙ n.6))) (tells r false false false false false n.0 n.1 n.2 n.3 n.4) n.5
 
 module _ (u : Scenario) (past : List Row) (key : Key) where
   -- an effect whose rows are a chain from a site's queue, and which leaves its actors and polls
@@ -149,7 +106,7 @@ module _ (u : Scenario) (past : List Row) (key : Key) where
       asked = tt;
       does = stays (named_stays c.queue _ id.number (ap (λ s. Some (record { site = s; number = id.number })) e) (tells _ false false false false false refl refl refl refl refl) l (λ h. cc) (λ h. cc));
     },
-    of_none u behind c.queue _ c.queue refl refl refl refl,
+    of_none u behind c.queue _ c.queue (λ e. cc) refl refl refl refl,
     forwards_rows (behind ++ _ ∷ []) a c id os e l,
   )
 
@@ -163,7 +120,7 @@ module _ (u : Scenario) (past : List Row) (key : Key) where
 
   pub serve_chain : (a : Actor) (c : Core) (id : MessageId) (r : Receipt) (failed : Bool) (os : List Outbound) → id.site ≡ c.queue.site → id.number < c.queue.arrivals → All (λ o. (rows : List Row) → FitsSender u rows o) os → IsChain c (serve_made key a c id r failed os).effect
   serve_chain a c id r true os e l f =
-      one_row c c _ refl refl refl tt (stays (named_stays c.queue _ id.number (ap (λ s. Some (record { site = s; number = id.number })) e) (tells _ false false false false false refl refl refl refl refl) l (λ h. cc) (λ h. cc))) (of_none u past c.queue _ _ refl refl refl refl)
+      one_row c c _ refl refl refl tt (stays (named_stays c.queue _ id.number (ap (λ s. Some (record { site = s; number = id.number })) e) (tells _ false false false false false refl refl refl refl refl) l (λ h. cc) (λ h. cc))) (of_none u past c.queue _ _ (λ e. cc) refl refl refl refl)
   serve_chain a c id r false os e l f = record { chain = forwards_rows past a c id os e l; actors = forwards_actors a c id os; sent = subst (All (FitsSender u (past ++ _))) (sym (forwards_sent a c id os)) (All-weaker (λ o. (rows : List Row) → FitsSender u rows o) (FitsSender u (past ++ _)) (λ o h. h (past ++ _)) os f) }
 
   -- sends
@@ -186,13 +143,19 @@ module _ (u : Scenario) (past : List Row) (key : Key) where
   waits_at : (q : Queue) (body : List ℕ) (group : Option (List ℕ)) (delay : ℕ) → Waits key.at delay (new_message q key.at body group delay)
   waits_at q body group delay = record { place = refl; release = refl }
 
-  old_entries : (q : Queue) → All (IsEntered key q) q.entries
-  old_entries q = all_in (IsEntered key q) q.entries (λ e i. inl i)
+  old_entries : (q : Queue) → AreEntered key q q.entries
+  old_entries q = record { each = all_in (IsEntered key q) q.entries (λ e i. inl i); kept = λ e i l. i }
 
-  more_entries : (q : Queue) (scope : Option (List ℕ)) (id : List ℕ) → All (IsEntered key q) (with_entry q key.at scope id).entries
+  more_entries : (q : Queue) (scope : Option (List ℕ)) (id : List ℕ) → AreEntered key q (with_entry q key.at scope id).entries
   more_entries q scope id =
-      All-push (IsEntered key q) (living_entries key.at q.entries) _
-      (All-filter (λ e. nat_lt key.at e.end) (IsEntered key q) q.entries (old_entries q)) (inr (refl, refl))
+      record {
+        each =
+            All-push (IsEntered key q) (living_entries key.at q.entries) _
+            (All-filter (λ e. nat_lt key.at e.end) (IsEntered key q) q.entries (old_entries q).each) (inr (refl, refl));
+        kept = λ e i l.
+            let lives : nat_lt key.at e.end ≡ true = grind (arith, nat_tests, l) in
+            in_left (living_entries key.at q.entries) _ e (into_filter (λ (x : Entry). nat_lt key.at x.end) q.entries e i lives);
+      }
 
   scope_alike : (scope : Scope) (g : List ℕ) → scope_given scope (Some g) ≡ scope_of scope g
   scope_alike scopes.Queue g = refl
@@ -217,16 +180,31 @@ module _ (u : Scenario) (past : List Row) (key : Key) where
     given_key : (scope : Option (List ℕ)) (id : List ℕ) → GivesKey scope id → All (λ z. IsSoundRole z.role) u.actors → (y : Given) → GivesAs u a.number key.at y → key_given c.queue.settings.kind y ≡ (scope, Some id)
     given_key scope id w z y g = ap (key_given c.queue.settings.kind) (sym (x.1 z y g)) ∙ w
 
+    -- an entry for it is new, and no entry that lives has what is given
+    abbrev IsAnew : List Entry → Type 0
+    IsAnew entries = (e : Entry) × In entries e × (e.number ≡ c.queue.arrivals) × (e.end ≡ key.at + deduplication_interval) × ((o : Entry) → In c.queue.entries o → key.at < o.end → GivesKey o.scope o.id → ⊥)
+
+    no_living : (scope : Option (List ℕ)) (id : List ℕ) → GivesKey scope id → living c.queue key.at scope id ≡ None → (o : Entry) → In c.queue.entries o → key.at < o.end → GivesKey o.scope o.id → ⊥
+    no_living scope id w f o i l k =
+        let test : Entry → Bool = λ x. nat_lt key.at x.end && same_text x.scope scope && bytes_eq x.id id in
+        let lives : nat_lt key.at o.end ≡ true = grind (arith, nat_tests, l) in
+        let scoped : same_text o.scope scope ≡ true = (same_text_decides o.scope scope).1 (ap (λ (z : Option (List ℕ) × Option (List ℕ)). z.0) (sym k ∙ w)) in
+        let ids : Some o.id ≡ Some id = ap (λ (z : Option (List ℕ) × Option (List ℕ)). z.1) (sym k ∙ w) in
+        let named : bytes_eq o.id id ≡ true = (bytes_decides o.id id).1 cc in
+        let found = in_found test c.queue.entries o i (rw (lives, scoped, named) refl) in
+        let none : None ≡ Some found.one = sym f ∙ found.gives in
+        cc
+
     refused_sent : (e : Refusal) → IsSent (Err e, c.queue)
-    refused_sent e = one_row c c _ refl refl refl tt (stays (nameless_stays key c.queue _ refl (tells _ false false false false false refl refl refl refl refl))) (of_none u past c.queue _ _ refl refl refl refl)
+    refused_sent e = one_row c c _ refl refl refl refl (stays (nameless_stays key c.queue _ refl (tells _ false false false false false refl refl refl refl refl))) (of_none u past c.queue _ _ (λ e. cc) refl refl refl refl)
 
     new_sent :
         (group : Option (List ℕ)) (delay : ℕ) (entries : List Entry) → delay_given c.queue.settings given ≡ delay → (is_fifo c.queue.settings.kind ≡ true → group ≡ given.group) → ((e : Entry) → In entries e → e.number ≡ c.queue.arrivals → GivesKey e.scope e.id)
-        → All (IsEntered key c.queue) entries → IsSent (Ok (New (id_of c.queue c.queue.arrivals)), with_message (record c.queue { entries = entries }) (new_message c.queue key.at given.body group delay))
-    new_sent group delay entries w f k o =
+        → AreEntered key c.queue entries → (is_fifo c.queue.settings.kind ≡ true → IsAnew entries) → IsSent (Ok (New (id_of c.queue c.queue.arrivals)), with_message (record c.queue { entries = entries }) (new_message c.queue key.at given.body group delay))
+    new_sent group delay entries w f k o n =
         let m : Message = new_message c.queue key.at given.body group delay in
         let waits : Waits key.at delay m = record { place = refl; release = refl } in
-        one_row c (with_queue c (with_message (record c.queue { entries = entries }) m)) _ refl refl refl tt
+        one_row c (with_queue c (with_message (record c.queue { entries = entries }) m)) _ refl refl refl refl
         (comes (record { one = m; entries = entries; tells = tells _ true false false false false refl refl refl refl refl; message = refl; number = refl; fresh = refl; delay = delay; waits = waits; told = refl; sent = λ _. (refl, refl); entered = o; after = refl }))
         (record {
           given = λ e one i z g h.
@@ -237,7 +215,9 @@ module _ (u : Scenario) (past : List Row) (key : Key) where
           repeats = λ e. cc;
           brought = λ _ e. cc;
           ends = λ _ e. cc;
-          enters = λ e y i n. given_key y.scope y.id (k y i n);
+          enters = λ e y i t. given_key y.scope y.id (k y i t);
+          asks = λ e. cc;
+          anew = λ e t. let z : IsAnew entries = n t in record { entry = z.0; there = z.1; number = z.2; lives = z.3; differs = λ y i l v g h same. z.4 y i l (ap (key_given c.queue.settings.kind) (x.1 v g h) ∙ same) };
           sends = λ e b f i. (given, x.0 b f i, refl);
         })
 
@@ -255,10 +235,10 @@ module _ (u : Scenario) (past : List Row) (key : Key) where
         ]
 
     unless_sent : (group : List ℕ) (scope : Option (List ℕ)) (id : List ℕ) (o : Option Entry) → GivesKey scope id → is_fifo c.queue.settings.kind ≡ true → Some group ≡ given.group → delay_given c.queue.settings given ≡ c.queue.settings.delay → living c.queue key.at scope id ≡ o → IsSent (send_unless c.queue key.at given.body group scope id o)
-    unless_sent group scope id None w y g d f = new_sent (Some group) c.queue.settings.delay (with_entry c.queue key.at scope id).entries d (λ _. g) (more_key scope id w) (more_entries c.queue scope id)
+    unless_sent group scope id None w y g d f = new_sent (Some group) c.queue.settings.delay (with_entry c.queue key.at scope id).entries d (λ _. g) (more_key scope id w) (more_entries c.queue scope id) (λ _. (record { scope = scope; id = id; end = key.at + deduplication_interval; number = c.queue.arrivals }, in_right (living_entries key.at c.queue.entries) _ _ (inl refl), refl, refl, no_living scope id w f))
     unless_sent group scope id (Some e) w y g d f =
-        one_row c c _ refl refl refl tt (stays (named_stays c.queue _ e.number refl (tells _ false false false false false refl refl refl refl refl) (named_by c scope id e s f) (λ h. cc) (λ h. cc)))
-        (record { given = λ t. cc; next = λ t. cc; timed = λ t. cc; sends = λ t. cc; enters = λ t. cc; brought = λ t. cc; ends = λ _ t. cc; repeats = λ t. repeats_by c.queue _ scope id e y f refl refl (λ _ i z n h. given_key scope id w z n h ∙ ap (λ j. (j, Some id)) (sym i.0) ∙ ap (λ j. (e.scope, Some j)) (sym i.1)) })
+        one_row c c _ refl refl refl refl (stays (named_stays c.queue _ e.number refl (tells _ false false false false false refl refl refl refl refl) (named_by c scope id e s f) (λ h. cc) (λ h. cc)))
+        (record { given = λ t. cc; next = λ t. cc; timed = λ t. cc; sends = λ t. cc; enters = λ t. cc; anew = λ t. cc; asks = λ t. cc; brought = λ t. cc; ends = λ _ t. cc; repeats = λ t. repeats_by c.queue _ scope id e y f refl refl (λ _ i z n h. given_key scope id w z n h ∙ ap (λ j. (j, Some id)) (sym i.0) ∙ ap (λ j. (e.scope, Some j)) (sym i.1)) })
 
     with_sent : (scope : Scope) (group id : Option (List ℕ)) → ((g i : List ℕ) → group ≡ Some g → id ≡ Some i → GivesKey (scope_of scope g) i) → is_fifo c.queue.settings.kind ≡ true → group ≡ given.group → delay_given c.queue.settings given ≡ c.queue.settings.delay → IsSent (send_with c.queue scope key.at given.body group id)
     with_sent scope None id w y g d = refused_sent refusals.MissingGroup
@@ -268,7 +248,7 @@ module _ (u : Scenario) (past : List Row) (key : Key) where
     pub sends_chain : (k : Kind) → c.queue.settings.kind ≡ k → IsSent (sends k c.queue key.at given.body given.delay given.group given.id)
     sends_chain (Standard hosts sampled) y =
         either IsSent (is_bad_delay 900 given.delay) _ _ (refused_sent refusals.BadDelay)
-        (new_sent None (delay_of c.queue given.delay) c.queue.entries (ap (λ j. delay_at j c.queue.settings.delay given.delay) y ∙ delay_alike c.queue given.delay) (λ f. absurd (true≢false (sym f ∙ ap is_fifo y))) old_key (old_entries c.queue))
+        (new_sent None (delay_of c.queue given.delay) c.queue.entries (ap (λ j. delay_at j c.queue.settings.delay given.delay) y ∙ delay_alike c.queue given.delay) (λ f. absurd (true≢false (sym f ∙ ap is_fifo y))) old_key (old_entries c.queue) (λ f. absurd (true≢false (sym f ∙ ap is_fifo y))))
     sends_chain (Fifo content scope) y =
         either IsSent (is_bad_delay 0 given.delay) _ _ (refused_sent refusals.BadDelay)
         (with_sent scope given.group (deduplication_id content given.body given.id)
@@ -276,8 +256,8 @@ module _ (u : Scenario) (past : List Row) (key : Key) where
         (ap is_fifo y) refl (ap (λ j. delay_at j c.queue.settings.delay given.delay) y))
 
   -- deletes
-  refused_row : (c : Core) (r : Row) → r.key ≡ key → r.queue ≡ c.queue.site → r.message ≡ None → Asks key c.queue r r.kind → Tells r false false false false false → words.is_repeat r.answer ≡ false → IsChain c (says c r)
-  refused_row c r k s n y t w = one_row c c r k s refl y (stays (nameless_stays key c.queue r n t)) (tells_none u past c.queue r c.queue t w)
+  refused_row : (c : Core) (r : Row) → r.key ≡ key → r.queue ≡ c.queue.site → r.message ≡ None → Asks key c.queue r r.kind → (words.is_change r.kind ≡ true → AsksChange u c.queue r) → Tells r false false false false false → words.is_repeat r.answer ≡ false → IsChain c (says c r)
+  refused_row c r k s n y z t w = one_row c c r k s refl y (stays (nameless_stays key c.queue r n t)) (tells_none u past c.queue r c.queue z t w)
 
   module _ (a : Actor) (c : Core) (text : List ℕ) (r : Receipt) (read : read_receipt text ≡ Some r) (s : IsStocked c.queue) where
     -- of the answer that the delete has
@@ -297,22 +277,22 @@ module _ (u : Scenario) (past : List Row) (key : Key) where
     deleted_chain =
         delete_by IsDeleted c.queue key.at r
         (record {
-          refused = λ e. refused_row c _ refl refl refl (asks_delete _ _ refl refl e) (tells _ false false false false false refl refl refl refl refl) refl;
+          refused = λ e. refused_row c _ refl refl refl (asks_delete _ _ refl refl e) (λ t. cc) (tells _ false false false false false refl refl refl refl refl) refl;
           gone = λ f l e.
               one_row c c _ refl refl refl (asks_delete _ _ refl refl e)
-              (stays (named_stays c.queue _ r.number refl (tells _ false false false false false refl refl refl refl refl) (grind (arith, nat_tests, l)) (λ h. cc) (λ h. f))) (of_none u past c.queue _ _ refl refl refl refl);
+              (stays (named_stays c.queue _ r.number refl (tells _ false false false false false refl refl refl refl refl) (grind (arith, nat_tests, l)) (λ h. cc) (λ h. f))) (of_none u past c.queue _ _ (λ e. cc) refl refl refl refl);
           kept = λ m f e.
               one_row c c _ refl refl refl (asks_delete _ _ refl refl e)
-              (stays (named_stays c.queue _ r.number refl (tells _ false false false false false refl refl refl refl refl) (found_old c.queue r.number m s f) (λ h. subst IsFound (sym f) tt) (λ h. cc))) (of_none u past c.queue _ _ refl refl refl refl);
+              (stays (named_stays c.queue _ r.number refl (tells _ false false false false false refl refl refl refl refl) (found_old c.queue r.number m s f) (λ h. subst IsFound (sym f) tt) (λ h. cc))) (of_none u past c.queue _ _ (λ e. cc) refl refl refl refl);
           taken = λ m f e.
               one_row c (with_queue c (taken_out c.queue r.number)) _ refl refl refl (asks_delete _ _ refl refl e)
               (ends (record { one = m; number = r.number; tells = tells _ false false false false true refl refl refl refl refl; names = record { there = f; message = refl; sure = refl }; kind = refl; rested = λ e. cc; after = refl }))
-              (of_one u past c.queue _ _ r.number m refl refl refl refl f (λ _. record { age = refl; over = λ t. cc }));
+              (of_one u past c.queue _ _ r.number m refl refl refl refl refl f (λ _. record { age = refl; over = λ t. cc }));
         }) c.queue.settings.kind
 
   delete_chain_of : (a : Actor) (c : Core) (text : List ℕ) (o : Option Receipt) → read_receipt text ≡ o → IsStocked c.queue → IsChain c (delete_made key a c text o).effect
   delete_chain_of a c text None e s =
-      refused_row c _ refl refl refl (record { text = text; given = refl; by = λ y f. cc; none = λ f. refl }) (tells _ false false false false false refl refl refl refl refl) refl
+      refused_row c _ refl refl refl (record { text = text; given = refl; by = λ y f. cc; none = λ f. refl }) (λ t. cc) (tells _ false false false false false refl refl refl refl refl) refl
   delete_chain_of a c text (Some r) e s = deleted_chain a c text r e s refl
 
   pub delete_chain : (a : Actor) (c : Core) (text : List ℕ) → IsStocked c.queue → IsChain c (delete_made key a c text (read_receipt text)).effect
@@ -346,27 +326,29 @@ module _ (u : Scenario) (past : List Row) (key : Key) where
       P : Result (Option Load) Refusal × Queue → Type 0
       P x = x.0 ≡ Ok left → key.at + 1000 * timeout ≤ m.received + longest_flight
 
-  module _ (a : Actor) (c : Core) (text : List ℕ) (timeout : ℕ) (r : Receipt) (read : read_receipt text ≡ Some r) (s : IsStocked c.queue) (home : slice_get u.queues c.queue.site ≡ Some c.queue.settings) (traced : AreTraced u past c.queue) where
+  module _ (a : Actor) (c : Core) (text : List ℕ) (timeout : ℕ) (own : AsksToChangeAs u c.queue.settings a.number key.at text timeout) (r : Receipt) (read : read_receipt text ≡ Some r) (s : IsStocked c.queue) (home : slice_get u.queues c.queue.site ≡ Some c.queue.settings) (traced : AreTraced u past c.queue) where
     -- of the answer that the change has
     abbrev IsChanged : Result (Option Load) Refusal × Queue → Type 0
     IsChanged x = change c.queue key.at r timeout ≡ x → IsChain c (change_answered key a c text timeout r x).effect
 
-    asks_change : (x : Result (Option Load) Refusal × Queue) (row : Row) → row.receipt ≡ receipts.Given text → row.answer ≡ changed_answer x.0 → change c.queue key.at r timeout ≡ x → AsksChange key c.queue row
-    asks_change x row g w e =
+    asks_change : (x : Result (Option Load) Refusal × Queue) (row : Row) → row.agent ≡ a.number → row.key ≡ key → (words.changed row ≡ true → row.detail ≡ details.Timeout timeout) → row.receipt ≡ receipts.Given text → row.answer ≡ changed_answer x.0 → change c.queue key.at r timeout ≡ x → AsksChange u c.queue row
+    asks_change x row n k t g w e =
         record {
           text = text;
           given = g;
           timeout = timeout;
-          by = λ y f. let is : r ≡ y = cc in w ∙ ap (λ (z : Result (Option Load) Refusal × Queue). changed_answer z.0) (sym e) ∙ ap (λ z. changed_answer (change c.queue key.at z timeout).0) is;
+          told = t;
+          own = subst (λ i. AsksToChangeAs u c.queue.settings i row.key.at text timeout) (sym n) (subst (λ (i : Key). AsksToChangeAs u c.queue.settings a.number i.at text timeout) (sym k) own);
+          by = λ y f. let is : r ≡ y = cc in subst (λ (i : Key). row.answer ≡ changed_answer (change c.queue i.at y timeout).0) (sym k) (w ∙ ap (λ (z : Result (Option Load) Refusal × Queue). changed_answer z.0) (sym e) ∙ ap (λ z. changed_answer (change c.queue key.at z timeout).0) is);
           none = λ f. cc;
         }
 
-    change_move : (m : Message) → key.at + 1000 * timeout ≤ m.received + longest_flight → AsksChange key c.queue (change_row key a c text answers.Ok (Some (id_of c.queue r.number)) (details.Timeout timeout)) → numbered r.number c.queue.records ≡ Some m → is_in_flight m ≡ true → Move key c.queue (change_row key a c text answers.Ok (Some (id_of c.queue r.number)) (details.Timeout timeout)) (with_change c.queue r.number (in_flight_until (key.at + 1000 * timeout)))
-    change_move m x y f l =
+    change_move : (m : Message) → key.at + 1000 * timeout ≤ m.received + longest_flight → numbered r.number c.queue.records ≡ Some m → is_in_flight m ≡ true → Move key c.queue (change_row key a c text answers.Ok (Some (id_of c.queue r.number)) (details.Timeout timeout)) (with_change c.queue r.number (in_flight_until (key.at + 1000 * timeout)))
+    change_move m x f l =
         record {
           at_key = refl;
           at_site = refl;
-          asked = y;
+          asked = tt;
           does = changes (record { one = m; number = r.number; timeout = timeout; tells = tells _ false false true false false refl refl refl refl refl; names = record { there = f; message = refl; sure = refl }; flies = l; told = refl; limit = x; after = refl });
         }
 
@@ -376,7 +358,7 @@ module _ (u : Scenario) (past : List Row) (key : Key) where
         let row : Row = change_row key a c text answers.Ok (Some (id_of c.queue r.number)) (details.Timeout timeout) in
         let one : Effect = says (with_queue c q) row in
         let both : Effect = and_then one (λ d. came_back key d r.number None) in
-        subst (IsChain c) (sym (ap (λ b. if b then both else one) e)) (record { chain = one_move u past key c.queue row q (change_move m (change_limit c.queue r timeout m None f (ap (λ y. y.0) x)) (asks_change _ row refl refl x) f l) (of_none u past c.queue row q refl refl refl refl); actors = refl; sent = All-nil (FitsSender u (past ++ _)) })
+        subst (IsChain c) (sym (ap (λ b. if b then both else one) e)) (record { chain = one_move u past key c.queue row q (change_move m (change_limit c.queue r timeout m None f (ap (λ y. y.0) x)) f l) (of_none u past c.queue row q (λ _. asks_change _ row refl refl (λ _. refl) refl refl x) refl refl refl refl); actors = refl; sent = All-nil (FitsSender u (past ++ _)) })
 
     back_change : (m : Message) → numbered r.number c.queue.records ≡ Some m → is_in_flight m ≡ true → (timeout == 0) ≡ true → IsChanged (returned (released c.queue r.number))
     back_change m f l e w =
@@ -391,7 +373,7 @@ module _ (u : Scenario) (past : List Row) (key : Key) where
         let one : Effect = says d row in
         let both : Effect = and_then one (λ d. came_back key d n x.1) in
         let same : released taken n ≡ x = released_changed c.queue n end m f in
-        let first : Chain u past key c.queue (row ∷ []) taken = one_move u past key c.queue row taken (change_move m (change_limit c.queue r timeout m x.1 f (ap (λ y. y.0) w)) (asks_change _ row refl refl w) f l) (of_none u past c.queue row taken refl refl refl refl) in
+        let first : Chain u past key c.queue (row ∷ []) taken = one_move u past key c.queue row taken (change_move m (change_limit c.queue r timeout m x.1 f (ap (λ y. y.0) w)) f l) (of_none u past c.queue row taken (λ _. asks_change _ row refl refl (λ _. refl) refl refl w) refl refl refl refl) in
         let told : AreTraced u behind taken = chain_traces u past key (row ∷ []) c.queue taken home s first traced in
         let back : (e : Core) → e.queue.site ≡ c.queue.site → e.queue.settings ≡ c.queue.settings → Returns key u behind taken x.0 (came_back key e n x.1) =
         λ e i j. subst (λ (y : Queue × Option Load). Returns key u behind taken y.0 (came_back key e n y.1)) same (one_back key u behind taken e n (in_flight_until end m) home told i j (own_changed n (in_flight_until end) (λ x. refl) c.queue.records m f) (ap (λ t. Some t) now)) in
@@ -405,22 +387,18 @@ module _ (u : Scenario) (past : List Row) (key : Key) where
     changed_chain =
         change_by IsChanged c.queue key.at r timeout
         (record {
-          refused = λ e w. refused_row c _ refl refl refl (asks_change _ _ refl refl w) (tells _ false false false false false refl refl refl refl refl) refl;
+          refused = λ e w. refused_row c _ refl refl refl tt (λ _. asks_change _ _ refl refl (λ t. cc) refl refl w) (tells _ false false false false false refl refl refl refl refl) refl;
           back = λ m f l e w. back_change m f l e w;
           kept = λ m f l e w. kept_change m f l e w;
         })
 
-  no_receipt : (b : Bool) → IsNoReceipt (answers.Refused (if b then refusals.BadTimeout else refusals.ReceiptHandleIsInvalid))
-  no_receipt true = inr refl
-  no_receipt false = inl refl
+  change_chain_of : (a : Actor) (c : Core) (text : List ℕ) (timeout : ℕ) → AsksToChangeAs u c.queue.settings a.number key.at text timeout → (o : Option Receipt) → read_receipt text ≡ o → IsStocked c.queue → slice_get u.queues c.queue.site ≡ Some c.queue.settings → AreTraced u past c.queue → IsChain c (change_made key a c text timeout o).effect
+  change_chain_of a c text timeout own None e s home traced =
+      refused_row c _ refl refl refl tt (λ _. record { text = text; given = refl; timeout = timeout; own = own; told = λ t. cc; by = λ y f. cc; none = λ f. refl }) (tells _ false false false false false refl refl refl refl refl) refl
+  change_chain_of a c text timeout own (Some r) e s home traced = changed_chain a c text timeout own r e s home traced refl
 
-  change_chain_of : (a : Actor) (c : Core) (text : List ℕ) (timeout : ℕ) (o : Option Receipt) → read_receipt text ≡ o → IsStocked c.queue → slice_get u.queues c.queue.site ≡ Some c.queue.settings → AreTraced u past c.queue → IsChain c (change_made key a c text timeout o).effect
-  change_chain_of a c text timeout None e s home traced =
-      refused_row c _ refl refl refl (record { text = text; given = refl; timeout = timeout; by = λ y f. cc; none = λ f. no_receipt (nat_lt 43200 timeout) }) (tells _ false false false false false refl refl refl refl refl) refl
-  change_chain_of a c text timeout (Some r) e s home traced = changed_chain a c text timeout r e s home traced refl
-
-  pub change_chain : (a : Actor) (c : Core) (text : List ℕ) (timeout : ℕ) → IsStocked c.queue → slice_get u.queues c.queue.site ≡ Some c.queue.settings → AreTraced u past c.queue → IsChain c (change_made key a c text timeout (read_receipt text)).effect
-  change_chain a c text timeout s home traced = change_chain_of a c text timeout (read_receipt text) refl s home traced
+  pub change_chain : (a : Actor) (c : Core) (text : List ℕ) (timeout : ℕ) → AsksToChangeAs u c.queue.settings a.number key.at text timeout → IsStocked c.queue → slice_get u.queues c.queue.site ≡ Some c.queue.settings → AreTraced u past c.queue → IsChain c (change_made key a c text timeout (read_receipt text)).effect
+  change_chain a c text timeout own s home traced = change_chain_of a c text timeout own (read_receipt text) refl s home traced
 
   -- what is due of messages
   pub expiry_chain : (c : Core) (m : Message) → numbered key.number c.queue.records ≡ Some m → key.at ≡ m.enqueued + c.queue.settings.retention → IsChain c (handle_expiry key c)
@@ -428,7 +406,7 @@ module _ (u : Scenario) (past : List Row) (key : Key) where
       subst (λ x. IsChain c (expiry_done key c (expired_found c.queue key.at key.number x))) (sym f)
       (one_row c (with_queue c (taken_out c.queue key.number)) _ refl refl refl tt
       (ends (record { one = m; number = key.number; tells = tells _ false false false false true refl refl refl refl refl; names = record { there = f; message = refl; sure = refl }; kind = refl; rested = λ e. cc; after = refl }))
-      (of_one u past c.queue _ _ key.number m refl refl refl refl f (λ _. record { age = refl; over = λ _. inl l })))
+      (of_one u past c.queue _ _ key.number m refl refl refl refl refl f (λ _. record { age = refl; over = λ _. inl l })))
 
   pub release_chain : (c : Core) (m : Message) → IsStocked c.queue → numbered key.number c.queue.records ≡ Some m → m.release ≡ Some key.at → slice_get u.queues c.queue.site ≡ Some c.queue.settings → AreTraced u past c.queue → IsChain c (release_done key c (released c.queue key.number))
   release_chain c m s f l home traced =
@@ -458,12 +436,12 @@ module _ (u : Scenario) (past : List Row) (key : Key) where
   brings : (c : Core) (o : Outbound) (load : Load) (m : Message) → IsArriving c o → o.load ≡ load → IsMadeBy c.queue key.at load m → IsBrought u past c.queue (arrival_row key c load answers.New (id_of c.queue c.queue.arrivals)) m
   brings c o load m h e w = record { transfer = o; fits = h.fits; sender = h.sender; to = h.to; at = h.at; arrives = refl; made = subst (λ x. IsMadeBy c.queue key.at x m) (sym e) w }
 
-  come_move : (c : Core) (r : Row) (m : Message) (entries : List Entry) → r.key ≡ key → r.queue ≡ c.queue.site → r.message ≡ Some (id_of c.queue c.queue.arrivals) → Asks key c.queue r r.kind → Tells r true false false false false → m.number ≡ c.queue.arrivals → m.receives ≡ 0 → WaitsAs m → origin_in r (Some (id_of c.queue c.queue.arrivals)) ≡ Some m.origin → words.is_send r.kind ≡ false → All (IsEntered key c.queue) entries → Move key c.queue r (with_message (record c.queue { entries = entries }) m)
+  come_move : (c : Core) (r : Row) (m : Message) (entries : List Entry) → r.key ≡ key → r.queue ≡ c.queue.site → r.message ≡ Some (id_of c.queue c.queue.arrivals) → Asks key c.queue r r.kind → Tells r true false false false false → m.number ≡ c.queue.arrivals → m.receives ≡ 0 → WaitsAs m → origin_in r (Some (id_of c.queue c.queue.arrivals)) ≡ Some m.origin → words.is_send r.kind ≡ false → AreEntered key c.queue entries → Move key c.queue r (with_message (record c.queue { entries = entries }) m)
   come_move c r m entries k s i y t n f l g d o = record { at_key = k; at_site = s; asked = y; does = comes (record { one = m; entries = entries; tells = t; message = i; number = n; fresh = f; delay = l.0; waits = l.1; told = g; sent = λ t. cc; entered = o; after = refl }) }
 
   -- what a row tells by which a message arrives
-  come_behind : (c : Core) (r : Row) (m : Message) (p : Queue) → words.is_send r.kind ≡ false → words.received r ≡ false → words.is_repeat r.answer ≡ false → (is_deleted r.answer || is_expired r.answer) ≡ false → numbered c.queue.arrivals p.records ≡ Some m → IsBrought u past c.queue r m → IsBehind u past c.queue r p
-  come_behind c r m p a b d f i w =
+  come_behind : (c : Core) (r : Row) (m : Message) (p : Queue) → words.is_change r.kind ≡ false → words.is_send r.kind ≡ false → words.received r ≡ false → words.is_repeat r.answer ≡ false → (is_deleted r.answer || is_expired r.answer) ≡ false → numbered c.queue.arrivals p.records ≡ Some m → IsBrought u past c.queue r m → IsBehind u past c.queue r p
+  come_behind c r m p g a b d f i w =
       let none : (words.is_send r.kind && words.comes r) ≡ false = ap (λ x. x && words.comes r) a in
       record {
         given = λ e. absurd (true≢false (sym e ∙ none));
@@ -472,13 +450,15 @@ module _ (u : Scenario) (past : List Row) (key : Key) where
         repeats = λ e. absurd (true≢false (sym e ∙ d));
         sends = λ e. absurd (true≢false (sym e ∙ none));
         enters = λ e. absurd (true≢false (sym e ∙ none));
+        anew = λ e. absurd (true≢false (sym e ∙ none));
+        asks = λ e. absurd (true≢false (sym e ∙ g));
         ends = λ _ e. absurd (true≢false (sym e ∙ f));
         brought = λ _ _ one j. let is : m ≡ one = let found : Some m ≡ Some one = sym i ∙ j in cc in subst (IsBrought u past c.queue r) is w;
       }
 
   settled_chain : (b : Bool) (c : Core) (load : Load) (m : Message) → IsBrought u past c.queue (arrival_row key c load answers.New (id_of c.queue c.queue.arrivals)) m → m.number ≡ c.queue.arrivals → m.receives ≡ 0 → WaitsAs m → load_origin load (id_of c.queue c.queue.arrivals) ≡ m.origin → (b ≡ true → 0 < c.queue.settings.retention → (load_age load key.at ≡ key.at - m.enqueued) × (m.enqueued + c.queue.settings.retention ≤ key.at)) → IsStocked c.queue → IsArrived c load (settled_when b c.queue m)
   settled_chain false c load m w n f l g d s =
-      record { chain = one_move u past key c.queue _ _ (come_move c _ m c.queue.entries refl refl refl tt (tells _ true false false false false refl refl refl refl refl) n f l (ap (λ x. Some x) g) refl (old_entries c.queue)) (come_behind c _ m _ refl refl refl refl (pushed_found c.queue.arrivals c.queue.records m n s.given_out) w); actors = refl; sent = All-nil (FitsSender u (past ++ _)) }
+      record { chain = one_move u past key c.queue _ _ (come_move c _ m c.queue.entries refl refl refl tt (tells _ true false false false false refl refl refl refl refl) n f l (ap (λ x. Some x) g) refl (old_entries c.queue)) (come_behind c _ m _ refl refl refl refl refl (pushed_found c.queue.arrivals c.queue.records m n s.given_out) w); actors = refl; sent = All-nil (FitsSender u (past ++ _)) }
   settled_chain true c load m w n f l g d s =
       let q : Queue = c.queue in
       let x : Queue = with_message q m in
@@ -489,7 +469,7 @@ module _ (u : Scenario) (past : List Row) (key : Key) where
         chain = (
           x,
           come_move c r m q.entries refl refl refl tt (tells _ true false false false false refl refl refl refl refl) n f l (ap (λ x. Some x) g) refl (old_entries q),
-          come_behind c r m x refl refl refl refl found w,
+          come_behind c r m x refl refl refl refl refl found w,
           one_move u (past ++ r ∷ []) key x _ (record q { arrivals = q.arrivals + 1 })
               (record {
                 at_key = refl;
@@ -497,7 +477,7 @@ module _ (u : Scenario) (past : List Row) (key : Key) where
                 asked = tt;
                 does = ends (record { one = m; number = q.arrivals; tells = tells _ false false false false true refl refl refl refl refl; names = record { there = found; message = refl; sure = refl }; kind = refl; rested = λ e. cc; after = gone });
               })
-              (of_one u (past ++ r ∷ []) x _ _ q.arrivals m refl refl refl refl found
+              (of_one u (past ++ r ∷ []) x _ _ q.arrivals m refl refl refl refl refl found
               (λ y. record { age = ap details.Age (d refl y).0; over = λ _. inr ((d refl y).1, (r, last_as words.comes (id_of q q.arrivals) past r true (names_same (id_of q q.arrivals) r refl), refl)) })),
         );
         actors = refl;
@@ -505,15 +485,15 @@ module _ (u : Scenario) (past : List Row) (key : Key) where
       }
 
   module _ (c : Core) (o : Outbound) (id : MessageId) (g : Option (List ℕ)) (b : List ℕ) (e : o.load ≡ Forward id g b) (h : IsArriving c o) (s : IsStocked c.queue) where
-    new_come : (m : Message) (entries : List Entry) → m.enqueued ≡ key.at → Waits key.at c.queue.settings.delay m → m.number ≡ c.queue.arrivals → m.receives ≡ 0 → record { site = c.queue.site; number = c.queue.arrivals } ≡ m.origin → All (IsEntered key c.queue) entries → IsArrived c (Forward id g b) ((New (id_of c.queue c.queue.arrivals), false), with_message (record c.queue { entries = entries }) m)
+    new_come : (m : Message) (entries : List Entry) → m.enqueued ≡ key.at → Waits key.at c.queue.settings.delay m → m.number ≡ c.queue.arrivals → m.receives ≡ 0 → record { site = c.queue.site; number = c.queue.arrivals } ≡ m.origin → AreEntered key c.queue entries → IsArrived c (Forward id g b) ((New (id_of c.queue c.queue.arrivals), false), with_message (record c.queue { entries = entries }) m)
     new_come m entries a w n f i k =
-        record { chain = one_move u past key c.queue _ _ (come_move c _ m entries refl refl refl tt (tells _ true false false false false refl refl refl refl refl) n f (c.queue.settings.delay, w) (ap (λ x. Some x) i) refl k) (come_behind c _ m _ refl refl refl refl (pushed_found c.queue.arrivals c.queue.records m n s.given_out) (brings c o (Forward id g b) m h e (a, w, sym i))); actors = refl; sent = All-nil (FitsSender u (past ++ _)) }
+        record { chain = one_move u past key c.queue _ _ (come_move c _ m entries refl refl refl tt (tells _ true false false false false refl refl refl refl refl) n f (c.queue.settings.delay, w) (ap (λ x. Some x) i) refl k) (come_behind c _ m _ refl refl refl refl refl (pushed_found c.queue.arrivals c.queue.records m n s.given_out) (brings c o (Forward id g b) m h e (a, w, sym i))); actors = refl; sent = All-nil (FitsSender u (past ++ _)) }
 
     unless_come : (body group : List ℕ) (scope : Option (List ℕ)) (text : List ℕ) (x : Option Entry) → is_fifo c.queue.settings.kind ≡ true → living c.queue key.at scope text ≡ x → IsArrived c (Forward id g b) (sent_of c.queue (send_unless c.queue key.at body group scope text x))
     unless_come body group scope text None y f = new_come (new_message c.queue key.at body (Some group) c.queue.settings.delay) (with_entry c.queue key.at scope text).entries refl (waits_at c.queue body (Some group) c.queue.settings.delay) refl refl refl (more_entries c.queue scope text)
     unless_come body group scope text (Some x) y f =
         record {
-          chain = one_move u past key c.queue _ _ (record { at_key = refl; at_site = refl; asked = tt; does = stays (named_stays c.queue _ x.number refl (tells _ false false false false false refl refl refl refl refl) (named_by c scope text x s f) (λ h. cc) (λ h. cc)) }) (record { given = λ t. cc; next = λ t. cc; timed = λ t. cc; sends = λ t. cc; enters = λ t. cc; repeats = λ t. repeats_by c.queue _ scope text x y f refl refl (λ t. cc); brought = λ t. cc; ends = λ _ t. cc });
+          chain = one_move u past key c.queue _ _ (record { at_key = refl; at_site = refl; asked = tt; does = stays (named_stays c.queue _ x.number refl (tells _ false false false false false refl refl refl refl refl) (named_by c scope text x s f) (λ h. cc) (λ h. cc)) }) (record { given = λ t. cc; next = λ t. cc; timed = λ t. cc; sends = λ t. cc; enters = λ t. cc; anew = λ t. cc; asks = λ t. cc; repeats = λ t. repeats_by c.queue _ scope text x y f refl refl (λ t. cc); brought = λ t. cc; ends = λ _ t. cc });
           actors = refl;
           sent = All-nil (FitsSender u (past ++ _));
         }
@@ -573,15 +553,15 @@ module _ (u : Scenario) (past : List Row) (key : Key) where
                       after = refl;
                     });
               },
-              of_none u behind q _ x refl refl refl refl,
+              of_none u behind q _ x (λ e. cc) refl refl refl refl,
               moved_chain (behind ++ _ ∷ []) to ms x d (one_sent t (drawn_latency t.move.settings.latency t.draws).1) e a.1 (moved_stand q m ms a.0 (All-tail (λ y. numbered y.number q.records ≡ Some y) m ms s)) (All-tail (λ y. is_visible y ≡ true) m ms v),
             )
       ]
 
   end_chain : (behind : List Row) (c : Core) (q : Queue) (t : Task) (rest : Rest) → c.queue.site ≡ q.site → Chain u behind key q (end_row key c t rest) q
-  end_chain behind c q t Empty e = one_move u behind key q _ q (record { at_key = refl; at_site = e; asked = tt; does = stays (nameless_stays key q _ refl (tells _ false false false false false refl refl refl refl refl)) }) (of_none u behind q _ q refl refl refl refl)
+  end_chain behind c q t Empty e = one_move u behind key q _ q (record { at_key = refl; at_site = e; asked = tt; does = stays (nameless_stays key q _ refl (tells _ false false false false false refl refl refl refl refl)) }) (of_none u behind q _ q (λ e. cc) refl refl refl refl)
   end_chain behind c q t More e = refl
-  end_chain behind c q t NoSource e = one_move u behind key q _ q (record { at_key = refl; at_site = e; asked = tt; does = stays (nameless_stays key q _ refl (tells _ false false false false false refl refl refl refl refl)) }) (of_none u behind q _ q refl refl refl refl)
+  end_chain behind c q t NoSource e = one_move u behind key q _ q (record { at_key = refl; at_site = e; asked = tt; does = stays (nameless_stays key q _ refl (tells _ false false false false false refl refl refl refl refl)) }) (of_none u behind q _ q (λ e. cc) refl refl refl refl)
 
   taken_site : (to : Option ℕ) (ms : List Message) (q : Queue) → (take_each q to ms).queue.site ≡ q.site
   taken_site to [] q = refl

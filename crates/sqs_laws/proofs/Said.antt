@@ -1,25 +1,16 @@
 -- What the rows so far say of a message, with one more row.
-use Rattle.std.specs.List.{list_any}
+use Rattle.sqs_laws.proofs.Terms.{All-head, All-tail, bit, Climbs, eqb-true, has_number, is_deleted, is_expired, list_any, Message, MessageId, nat_tests, numbered, or-false, or-true, or_parts, Row, RowAnswer, sum_by-append, sum_by-cons, total, without}
 use Rattle.std.specs.Prelude.{All, Bool, List, None, Some, [], cond, count_by, false, true, ℕ, ◌&&◌, ◌+◌, ◌++◌, ◌<◌, ◌==◌, ◌∷◌, ◌≡◌, ◌≢◌, ◌≤◌, ◌||◌}
 use Rattle.std.proofs.Common.{ap, arith, refl, ◌∙◌}
-use Rattle.std.proofs.Math.Bool.{or-false, or-true}
-use Rattle.std.proofs.lemmas.Bool.{eqb-true, or_parts}
-use Rattle.std.proofs.lemmas.Bool.Decides.{nat_tests}
 use Rattle.std.proofs.lemmas.List.Folds.{list_any-append}
-use Rattle.std.proofs.lemmas.List.Elements.{All-head, All-tail}
-use Rattle.std.proofs.lemmas.List.Sums.{sum_by-append, sum_by-cons}
-use Rattle.sim_clock.specs.Firsts.{without}
-use Rattle.sqs_message.specs.declared.ids.MessageId.{MessageId}
-use Rattle.sqs_message.specs.declared.message.Message.{Message}
-use Rattle.sqs_message.specs.declared.row.Row.{Row}
-use Rattle.sqs_message.specs.declared.row.RowAnswer.{RowAnswer}
 use Rattle.sqs_message.specs.declared.row.RowAnswer.TheVariants as answers
-use Rattle.sqs_model.specs.Accounts.{is_deleted, is_expired}
-use Rattle.sqs_model.specs.Queue.{has_number, numbered}
-use Rattle.sqs_model.proofs.Ledger.{bit}
-use Rattle.sqs_model.proofs.Numbered.{Climbs}
 use Rattle.sqs_laws.specs.Words.{comes, comings, has_left, is_gone, is_new, leaves, names, received, times, is_redrive, is_move}
 pub use Rattle.sqs_laws.proofs.Naming.{last_as, names_apart, names_id, names_other, names_same}
+
+-- what is counted, as a sum
+pub count_total : {A : Type 0} (p : A → Bool) (xs : List A) → count_by p xs ≡ total (λ x. bit (p x)) xs
+count_total p [] = refl
+count_total p (x ∷ xs) = omega (arith, sum_by-cons (λ y. bit (p y)) x xs, count_total p xs)
 
 -- counts with one more
 pub count_push : {A : Type 0} (p : A → Bool) (xs : List A) (x : A) → count_by p (xs ++ x ∷ []) ≡ count_by p xs + bit (p x)
@@ -62,7 +53,7 @@ pub pushed_other : (n : ℕ) (ms : List Message) (m : Message) → n ≢ m.numbe
 pushed_other n [] m d = let other : has_number n m ≡ false = grind (arith, nat_tests, d) in rw other refl
 pushed_other n (x ∷ xs) m d = ap (λ o. cond (has_number n x) (Some x) o) (pushed_other n xs m d)
 
-absent_above : (n a : ℕ) (ms : List Message) → n < a → Climbs a ms → numbered n ms ≡ None
+pub absent_above : (n a : ℕ) (ms : List Message) → n < a → Climbs a ms → numbered n ms ≡ None
 absent_above n a [] l c = refl
 absent_above n a (x ∷ xs) l c =
     let k : a ≤ x.number = c.0 in

@@ -1,42 +1,14 @@
 -- Each transfer that a handling sends has a row, and each arrival one of its own.
 use Rattle.std.specs.Prelude.{Bool, Err, List, None, Ok, Option, Result, Some, [], false, find, map, true, ℕ, ◌==◌, ◌∷◌, ◌≡◌, length}
 use Rattle.std.proofs.Common.{arith, refl, subst, sym}
-use Rattle.sim_clock.specs.declared.key.Key.{Key}
-use Rattle.sim_clock.specs.declared.refusal.Refusal.{Refusal}
-use Rattle.sqs_message.specs.declared.ids.MessageId.{MessageId}
-use Rattle.sqs_message.specs.declared.ids.Receipt.{Receipt}
+use Rattle.sqs_laws.proofs.Terms.{Actor, all_came_back, and_then, arrival_done, arrival_row, arrived, CallLaw, came_back, change, change_answered, change_made, change_row, Core, delete, delete_done, delete_made, Deleted, drawn_latency, Draws, DueLaw, Effect, effect_of, either, end_row, expired, expiry_done, expiry_row, forward_made, forwards_made, give_most, given, Gone, Got, got_row, handle_taken, handled, handled_goes, has_key, id_of, is_arrival, Kept, Key, Load, load_age, MessageId, move_out, move_row, Moved, moves, no_effect, number_of, Outbound, Policy, Queue, read_receipt, Receipt, redrive_by, Refusal, release_done, released, Removed, Row, RowAnswer, RowKind, says, send_made, sends, Sent, serve_made, Site, step_done, take_movable, Task, task_stepped, TellsOfNone, timeout_of, total, total_append, with_queue}
 use Rattle.sqs_message.specs.declared.row.Detail.TheVariants as details
-use Rattle.sqs_message.specs.declared.row.Row.{Row}
-use Rattle.sqs_message.specs.declared.row.RowAnswer.{RowAnswer}
 use Rattle.sqs_message.specs.declared.row.RowAnswer.TheVariants as answers
-use Rattle.sqs_message.specs.declared.row.RowKind.{RowKind}
 use Rattle.sqs_message.specs.declared.row.RowKind.TheVariants as kinds
-use Rattle.sqs_message.specs.Ids.{read_receipt}
-use Rattle.sqs_redrive.specs.declared.answers.Deleted.{Deleted}
-use Rattle.sqs_redrive.specs.declared.answers.Deleted.TheVariants.{Gone, Kept, Removed}
-use Rattle.sqs_redrive.specs.declared.answers.Got.{Got}
 use Rattle.sqs_redrive.specs.declared.answers.Rest.{Rest}
 use Rattle.sqs_redrive.specs.declared.answers.Rest.TheVariants.{Empty, More, NoSource}
-use Rattle.sqs_redrive.specs.declared.answers.Sent.{Sent}
 use Rattle.sqs_redrive.specs.declared.answers.Sent.TheVariants.{New, Repeat}
-use Rattle.sqs_redrive.specs.declared.settings.Policy.{Policy}
-use Rattle.sqs_redrive.specs.declared.transfers.Load.{Load}
-use Rattle.sqs_redrive.specs.declared.transfers.Outbound.{Outbound}
-use Rattle.sqs_redrive.specs.MoveTasks.{task_stepped}
-use Rattle.sqs_model.specs.Acts.{all_came_back, came_back, change_answered, change_made, change_row, delete_done, delete_made, forward_made, forwards_made, given, got_row, redrive_by, send_made, sends, serve_made}
-use Rattle.sqs_model.specs.Actor.{Actor}
-use Rattle.sqs_model.specs.Arrive.{arrived, expired}
-use Rattle.sqs_model.specs.Calls.{change, delete}
-use Rattle.sqs_model.specs.Draw.{Draws, drawn_latency}
-use Rattle.sqs_model.specs.Queue.{Queue, id_of}
-use Rattle.sqs_model.specs.Receive.{give_most, timeout_of}
-use Rattle.sqs_model.specs.Return.{released}
-use Rattle.sqs_model.specs.Site.{Core, Effect, Site, and_then, has_key, no_effect, number_of, says, with_queue}
-use Rattle.sqs_model.specs.Step.{Moved, arrival_done, arrival_row, end_row, expiry_done, expiry_row, handle_taken, handled, is_arrival, load_age, move_out, move_row, moves, one_sent as one_sent_by, release_done, step_done}
-use Rattle.sqs_model.specs.Task.{Task, take_movable}
-use Rattle.sqs_model.proofs.Branches.{either}
-use Rattle.sqs_model.proofs.CallWalk.{CallLaw, DueLaw, TellsOfNone, effect_of, handled_goes}
-use Rattle.sqs_model.proofs.Counts.{total, total_append}
+use Rattle.sqs_model.specs.Step.{one_sent as one_sent_by}
 use Rattle.sqs_model.proofs.Sending.{always_each}
 use Rattle.sqs_laws.specs.Words.{is_arrive, sends_on}
 
@@ -181,7 +153,7 @@ module _ (key : Key) (f g : Row → ℕ) (h : Outbound → ℕ) (plain : (r : Ro
         Woken = λ c n. Unit {0};
         Acted = λ c n. Unit {0};
         gives = λ p c agent max timeout set a i. (from_zero p _ i (given_weighs c agent timeout (give_most c.queue key.at max timeout set)), tt);
-        changes = λ p a c text timeout i. from_zero p _ i (change_weighs a c text timeout (read_receipt text));
+        changes = λ p a c x text timeout j m i. from_zero p _ i (change_weighs a c text timeout (read_receipt text));
         deletes = λ p a c text i. from_zero p _ i (delete_weighs a c text (read_receipt text));
         sends = λ p a c body delay group id m i. from_zero p _ i (send_weighs a c body (sends c.queue.settings.kind c.queue key.at body delay group id));
         draws = λ p c hosts i. i;
@@ -191,11 +163,13 @@ module _ (key : Key) (f g : Row → ℕ) (h : Outbound → ℕ) (plain : (r : Ro
         May = λ c a x. Unit {0};
         Asks = λ p agent timeout. Unit {0};
         later = λ p e agent timeout a. tt;
-        asked = λ p a c max wait timeout s m i. tt;
+        Fine = λ timeout. Unit {0};
+        fine = λ timeout b. tt;
+        asked = λ p a c max wait timeout f s m i. tt;
         waiting = λ p c i. always_each (λ x. Unit {0}) (λ x. tt) c.polls;
         turns = λ p n c a w e t i. (i, tt, tt);
         acted = λ p a c x i s m h g. tt;
-        polls = λ p a c max wait timeout e s m k i. from_zero p _ i (one_row _ _ (nameless_plain kinds.Receive answers.Wait tt));
+        polls = λ p a c max wait timeout e f s m k i. from_zero p _ i (one_row _ _ (nameless_plain kinds.Receive answers.Wait tt));
         serves = λ p a c id r failed o m i. from_zero p _ i (serve_weighs a c id r failed o);
       }
 

@@ -1,21 +1,7 @@
 -- Laws of the messages of queues, each by itself: what the rows so far say of a message that has not come, is there or has gone.
 use Rattle.std.specs.Prelude.{Bool, List, None, Option, Some, [], false, nat_lt, slice_get, true, ℕ, ◌*◌, ◌+◌, ◌++◌, ◌<◌, ◌==◌, ◌∷◌, ◌≡◌, ◌≢◌, ◌≤◌, ◌&&◌}
 use Rattle.std.proofs.Common.{ap, arith, refl, subst, sym, ◌∙◌}
-use Rattle.std.proofs.lemmas.Bool.{and_parts, eqb-false, eqb-true}
-use Rattle.std.proofs.lemmas.Bool.Decides.{nat_tests}
-use Rattle.std.proofs.lemmas.List.Elements.{All-weaker}
-use Rattle.sim_clock.specs.declared.key.Key.{Key}
-use Rattle.sqs_message.specs.declared.ids.MessageId.{MessageId}
-use Rattle.sqs_message.specs.declared.message.Message.{Message}
-use Rattle.sqs_message.specs.declared.row.Row.{Row}
-use Rattle.sqs_redrive.specs.declared.settings.QueueSettings.{QueueSettings}
-use Rattle.sqs_model.specs.Calls.{in_flight_until}
-use Rattle.sqs_model.specs.Queue.{Queue, id_of, numbered, taken_out, with_change}
-use Rattle.sqs_model.specs.Receive.{received}
-use Rattle.sqs_model.specs.Return.{visible_again}
-use Rattle.sqs_model.specs.Scenario.{Scenario}
-use Rattle.sqs_model.proofs.Branches.{by_cases}
-use Rattle.sqs_model.proofs.Numbered.{other_without}
+use Rattle.sqs_laws.proofs.Terms.{All-weaker, and_parts, by_cases, eqb-false, eqb-true, id_of, in_flight_until, Key, Message, MessageId, nat_tests, numbered, other_without, Queue, QueueSettings, received, Row, Scenario, taken_out, visible_again, with_change}
 use Rattle.sqs_laws.specs.Words.{names}
 use Rattle.sqs_laws.proofs.Calls.{found_old, other_changed, own_changed}
 use Rattle.sqs_laws.proofs.Moves.{Changes, Comes, Does, IsBehind, IsStocked, Names, Receives, Releases, Tells, changes, comes, ends, receives, redrives, releases, stays}
@@ -84,14 +70,9 @@ module _ (s : Scenario) (law : MessageLaw s) where
     pub settings : slice_get s.queues q.site ≡ Some q.settings
     pub each : (n : ℕ) → Said q.settings rows (id_of q n) (slot q n)
 
-  -- what is said of a message that is there, has gone or has not come
+  -- what is said of a message that is there, or has not come
   pub of_there : (rows : List Row) (q : Queue) → Holds rows q → (n : ℕ) (m : Message) → numbered n q.records ≡ Some m → Said q.settings rows (id_of q n) (there m)
   of_there rows q h n m e = subst (λ o. Said q.settings rows (id_of q n) (slot_of o (nat_lt n q.arrivals))) e (h.each n)
-
-  pub of_gone : (rows : List Row) (q : Queue) → Holds rows q → (n : ℕ) → numbered n q.records ≡ None → n < q.arrivals → Said q.settings rows (id_of q n) gone
-  of_gone rows q h n e l =
-      let born : nat_lt n q.arrivals ≡ true = grind (arith, nat_tests, l) in
-      subst (λ b. Said q.settings rows (id_of q n) (slot_of None b)) born (subst (λ o. Said q.settings rows (id_of q n) (slot_of o (nat_lt n q.arrivals))) e (h.each n))
 
   pub of_unborn : (rows : List Row) (q : Queue) → IsStocked q → Holds rows q → (n : ℕ) → q.arrivals ≤ n → Said q.settings rows (id_of q n) unborn
   of_unborn rows q k h n l =

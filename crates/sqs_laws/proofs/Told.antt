@@ -1,52 +1,22 @@
 -- The log tells each journey of a message from queue to queue.
-use Rattle.std.specs.List.{count_by}
+use Rattle.sqs_laws.proofs.Terms.{after, All-nil, bit, Core, count_by, dues, Edge, edges, enumerate_from, final_load, final_transfer, Forward, handled, in_key_order, IsFine, IsRunOf, IsSentBy, IsSoundScenario, IsSoundSetting, Key, key_cmp, least_among, least_latency, least_of, leb-true, length-map, Load, Move, number_of, on, opening, opening_site, Outbound, QueueSettings, Redrive, Row, Run, Scenario, setting_of, Site, sound_setting, sources, sqs, total, total_flat, total_inserted, total_map, total_same, transfer_key}
 use Rattle.std.specs.Prelude.{Bool, List, None, Option, Some, [], false, flat_map, length, map, nat_le, true, ℕ, ◌&&◌, ◌+◌, ◌<◌, ◌==◌, ◌∷◌, ◌≡◌, ◌≤◌}
 use Rattle.std.proofs.Common.{ap, arith, inl, inr, le-leb, refl, subst, ◌∙◌, sym}
-use Rattle.std.proofs.lemmas.Bool.{leb-true}
-use Rattle.std.proofs.lemmas.List.{length-map}
-use Rattle.std.proofs.lemmas.List.Elements.{All-nil}
 use Rattle.std.proofs.lemmas.List.FromFn.{length-enumerate_from}
-use Rattle.std.proofs.lemmas.List.Sums.{sum_by-cons}
-use Rattle.std.specs.List.{enumerate_from}
-use Rattle.std.specs.Ordering.{on}
-use Rattle.sim_clock.specs.declared.key.Key.{Key}
-use Rattle.sim_clock.specs.Order.{key_cmp}
-use Rattle.sim_engine.specs.declared.edge.Edge.{Edge}
-use Rattle.sim_engine.specs.Laws.{IsSentBy, IsSoundSetting}
 use Rattle.sim_engine.specs.Members.{Each, In}
 use Rattle.sim_engine.proofs.Parts.{each_weaker}
-use Rattle.sqs_message.specs.declared.row.Row.{Row}
 use Rattle.sqs_message.specs.declared.row.RowKind.TheVariants as kinds
-use Rattle.sqs_redrive.specs.declared.settings.QueueSettings.{QueueSettings}
-use Rattle.sqs_redrive.specs.declared.transfers.Load.{Load}
-use Rattle.sqs_redrive.specs.declared.transfers.Load.TheVariants.{Forward, Move, Redrive}
-use Rattle.sqs_redrive.specs.declared.transfers.Outbound.{Outbound}
-use Rattle.sqs_redrive.specs.Transfers.{transfer_key}
 use Rattle.sqs_model.specs.declared.finals.FinalTransfer.{FinalTransfer}
 use Rattle.sqs_model.specs.Conditions.{sqs_conditions}
-use Rattle.sqs_model.specs.Dues.{dues}
-use Rattle.sqs_model.specs.Finals.{final_load, final_transfer, finals_of, in_key_order}
-use Rattle.sqs_model.specs.Progress.{IsSoundScenario}
-use Rattle.sqs_model.specs.Run.{IsRunOf, Run, after, setting_of}
-use Rattle.sqs_model.specs.Scenario.{Scenario, edges, least_among, least_latency, least_of, opening, opening_site, sources}
-use Rattle.sqs_model.specs.Site.{Core, Site, number_of}
-use Rattle.sqs_model.specs.Sqs.{sqs}
-use Rattle.sqs_model.specs.Step.{handled}
+use Rattle.sqs_model.specs.Finals.{finals_of}
 use Rattle.sqs_model.specs.Ways.{FitsWays, Leads, home_of}
-use Rattle.sqs_model.proofs.Counts.{total, total_flat, total_map, total_same}
-use Rattle.sqs_model.proofs.Instance.{total_inserted}
-use Rattle.sqs_model.proofs.Ledger.{bit}
-use Rattle.sqs_model.proofs.Sites.{IsFine, sound_setting}
 use Rattle.sqs_laws.specs.Laws.{Journeys}
 use Rattle.sqs_laws.specs.Words.{arrives_at, goes_to, is_arrive, sends_on}
 use Rattle.sqs_laws.proofs.Apart.{projected}
 use Rattle.sqs_laws.proofs.Journeys.{Handles, Holds, IsForSite, came, holds_after}
 use Rattle.sqs_laws.proofs.Reach.{premises}
+use Rattle.sqs_laws.proofs.Said.{count_total}
 use Rattle.sqs_laws.proofs.Sent.{IsComing, IsSending, handling_weighs}
-
-count_total : {A : Type 0} (p : A → Bool) (xs : List A) → count_by p xs ≡ total (λ x. bit (p x)) xs
-count_total p [] = refl
-count_total p (x ∷ xs) = omega (arith, sum_by-cons (λ y. bit (p y)) x xs, count_total p xs)
 
 -- no way is shorter than the least latency
 least_most : (most : ℕ) (es : List Edge) → least_of most es ≤ most

@@ -1,39 +1,23 @@
 -- The rows so far tell the origin of each message of a queue, and since when it counts as enqueued.
 use Rattle.std.specs.Prelude.{All, Bool, List, None, Some, [], false, get_or, length, nat_le, nat_lt, not, slice_get, suc, true, zero, ℕ, ◌&&◌, ◌+◌, ◌++◌, ◌<◌, ◌∷◌, ◌≡◌, ◌≤◌, Option, find, cond, ◌⊎◌, ◌==◌, ◌≢◌}
 use Rattle.std.proofs.Common.{ap, arith, refl, subst, sym, ◌∙◌, inl, inr, true≢false}
-use Rattle.std.proofs.Math.Bool.{and-false}
-use Rattle.std.proofs.lemmas.Bool.{and_parts, eq-eqb, eqb-true}
-use Rattle.std.proofs.lemmas.Bool.Decides.{nat_tests}
-use Rattle.std.proofs.lemmas.List.{append-nil, append_assoc}
-use Rattle.std.proofs.lemmas.List.Elements.{All-head, All-tail, All-weaker}
-use Rattle.sim_clock.specs.declared.key.Key.{Key}
-use Rattle.sqs_message.specs.declared.ids.MessageId.{MessageId}
+use Rattle.sqs_laws.proofs.Terms.{All-head, All-tail, All-weaker, and-false, and_parts, append-nil, append_assoc, by_cases, enqueued_at, eq-eqb, eqb-true, Fifo, find_all, find_picked, Forward, has_number, id_of, is_first, is_origin, Key, Kind, Load, Message, MessageId, nat_tests, numbered, origin_in, origin_told, Outbound, Queue, Redrive, Row, RowAnswer, RowKind, same_id, Scenario, Standard, tells}
 use Rattle.sqs_message.specs.declared.ids.Origin.{Origin}
-use Rattle.sqs_message.specs.declared.message.Message.{Message}
 use Rattle.sqs_message.specs.declared.row.Detail.TheVariants as details
-use Rattle.sqs_message.specs.declared.row.Row.{Row}
-use Rattle.sqs_redrive.specs.declared.settings.Kind.{Kind}
-use Rattle.sqs_redrive.specs.declared.settings.Kind.TheVariants.{Fifo, Standard}
-use Rattle.sqs_redrive.specs.declared.transfers.Load.{Load}
-use Rattle.sqs_redrive.specs.declared.transfers.Load.TheVariants.{Forward, Move as Moves, Redrive}
-use Rattle.sqs_redrive.specs.declared.transfers.Outbound.{Outbound}
-use Rattle.sqs_model.specs.Accounts.{origin_in, is_first, is_origin, origin_told, same_id, tells}
-use Rattle.sqs_model.specs.Queue.{Queue, has_number, id_of, numbered}
-use Rattle.sqs_model.specs.Scenario.{Scenario}
-use Rattle.sqs_model.proofs.Branches.{by_cases}
-use Rattle.sqs_model.proofs.Counts.{find_all, find_picked}
+use Rattle.sqs_redrive.specs.declared.transfers.Load.TheVariants.{Move as Moves}
 use Rattle.sqs_laws.specs.Laws.{EnqueuedAfter, EnqueuedAt, IsDeadLetter, MayArrive, fifo_at, is_actor_of, is_fifo, keeps_age}
 use Rattle.sqs_laws.specs.Words.{came_by, names}
 use Rattle.sqs_laws.specs.Words as words
 use Rattle.sqs_laws.proofs.Moves.{AreTraced, Chain, Comes, Does, FitsLoad, FitsSender, IsBehind, IsBrought, IsMadeBy, IsStocked, IsTraced, IsUnderWay, Keeps, does_keep, OfGroup, own_origin, as_told, does_all}
 use Rattle.sqs_laws.proofs.Naming.{last_as, names_other, names_same, origin_as, names_apart, NamesOwn}
-use Rattle.sqs_message.specs.declared.row.RowKind.{RowKind}
 use Rattle.sqs_message.specs.declared.row.RowKind.TheVariants as kinds
-use Rattle.sqs_model.specs.Arrive.{enqueued_at}
 use Rattle.std.proofs.lemmas.List.Folds.{find-append}
-use Rattle.sqs_message.specs.declared.row.RowAnswer.{RowAnswer}
 use Rattle.sqs_message.specs.declared.row.RowAnswer.TheVariants as answers
 use Rattle.std.specs.Option.{option_or}
+
+-- the kind of a row's queue
+pub fifo_there : (s : Scenario) (r : Row) (q : Queue) → r.queue ≡ q.site → slice_get s.queues q.site ≡ Some q.settings → fifo_at s r ≡ is_fifo q.settings.kind
+fifo_there s r q e f = ap (λ x. elim x as (λ _. Bool) [ None ↦ false | Some y ↦ is_fifo y.kind ]) (ap (λ n. slice_get s.queues n) e ∙ f)
 
 -- one more message is found by its number
 pub pushed_found : (n : ℕ) (ms : List Message) (m : Message) → m.number ≡ n → All (λ x. x.number < n) ms → numbered n (ms ++ m ∷ []) ≡ Some m
@@ -126,9 +110,7 @@ module _ (s : Scenario) where
 
   module _ (rows : List Row) (key : Key) (q : Queue) (r : Row) (p : Queue) (at_key : r.key ≡ key) (at_site : r.queue ≡ q.site) (home : slice_get s.queues q.site ≡ Some q.settings) (o : IsBehind s rows q r p) where
     fifo_here : fifo_at s r ≡ is_fifo q.settings.kind
-    fifo_here =
-        let own : slice_get s.queues r.queue ≡ Some q.settings = ap (λ n. slice_get s.queues n) at_site ∙ home in
-        ap (λ x. elim x as (λ _. Bool) [ None ↦ false | Some y ↦ is_fifo y.kind ]) own
+    fifo_here = fifo_there s r q at_site home
 
     -- one that comes
     module _ (d : Comes key q r p) (found : numbered q.arrivals p.records ≡ Some d.one) where

@@ -1,22 +1,10 @@
 -- A FIFO queue gives the messages of a group in the order in which they came, all that may be given, and none of a group of which
 -- one is in flight.
-use Rattle.std.specs.List.{list_any}
+use Rattle.sqs_laws.proofs.Terms.{All-cons, All-nil, all_above, and_parts, available_at, Climbs, Fifo, firsts, In, is_delayed, is_in_flight, is_open, is_visible, kept_when, Kind, list_any, Message, of_all, open_from, or_parts, Place, same_group, same_text_decides, Standard}
 use Rattle.std.specs.Prelude.{All, Bool, List, [], cond, false, filter, not, suc, take, true, zero, ℕ, ◌&&◌, ◌+◌, ◌++◌, ◌<◌, ◌∷◌, ◌≡◌, ◌≤◌, ◌⊎◌}
 use Rattle.std.proofs.Common.{ap, arith, inl, inr, refl, subst, sym, true≢false, ◌∙◌}
-use Rattle.std.proofs.lemmas.Bool.{and_parts, or_parts}
-use Rattle.std.proofs.lemmas.List.Elements.{All-cons, All-nil}
-use Rattle.sim_clock.specs.Firsts.{kept_when}
-use Rattle.sqs_message.specs.declared.message.Message.{Message}
-use Rattle.sqs_message.specs.declared.message.Place.{Place}
 use Rattle.sqs_message.specs.declared.message.Place.TheVariants as places
-use Rattle.sqs_redrive.specs.declared.settings.Kind.{Kind}
-use Rattle.sqs_redrive.specs.declared.settings.Kind.TheVariants.{Fifo, Standard}
-use Rattle.sqs_model.specs.Available.{available_at, firsts, is_open, open_from}
-use Rattle.sqs_model.specs.Queue.{is_delayed, is_in_flight, is_visible, same_group}
-use Rattle.sqs_model.specs.Texts.{same_text_decides}
 use Rattle.sqs_model.proofs.Grouped.{Leaders, climbs_open, firsts_led, groups}
-use Rattle.sqs_model.proofs.Members.{In, of_all}
-use Rattle.sqs_model.proofs.Numbered.{Climbs, all_above}
 use Rattle.sqs_laws.specs.Laws.{is_fifo}
 
 -- groups are alike or apart

@@ -1,28 +1,7 @@
 -- A law that each single move keeps holds of all rows of a run.
-use Rattle.std.specs.List.{enumerate_from}
+use Rattle.sqs_laws.proofs.Terms.{accepted, Actor, ActorSettings, after, All-cons, All-filter, All-head, All-map, All-nil, All-tail, All-weaker, all_inserted, append-nil, append_assoc, ascends_enumerated, ascends_filter, ascends_lower, ascends_map, delivered, delivered_one, due_by, dues, either, either_by, Entry, enumerate_from, eqb-true, Handled, handled, handled_among, handled_here, handled_there, In, is_due, IsRunOf, Key, key_cmp, least_due, leb-true, Message, next_due, number_of, numbered_actors, numbered_tasks, on, opening, opening_actor, opening_site, opening_task, Outbound, Queue, QueueSettings, Row, Run, Scenario, Site, Stepped, stepped_at, Task, transfer_key, world_due}
 use Rattle.std.specs.Prelude.{All, List, None, Option, Some, [], false, filter, get_or, if◌then◌else◌, length, map, nat_le, slice_get, suc, true, zero, ℕ, ◌+◌, ◌-◌, ◌++◌, ◌<◌, ◌==◌, ◌∷◌, ◌≡◌, ◌≢◌, ◌≤◌}
 use Rattle.std.proofs.Common.{ap, arith, refl, subst, sym, ◌∙◌}
-use Rattle.std.proofs.lemmas.Bool.{leb-true, eqb-true}
-use Rattle.std.proofs.lemmas.List.{append-nil, append_assoc}
-use Rattle.std.proofs.lemmas.List.Elements.{All-cons, All-filter, All-head, All-map, All-nil, All-tail, All-weaker}
-use Rattle.sim_clock.specs.declared.key.Key.{Key}
-use Rattle.sqs_message.specs.declared.message.Message.{Message}
-use Rattle.sqs_message.specs.declared.row.Row.{Row}
-use Rattle.sqs_redrive.specs.declared.settings.QueueSettings.{QueueSettings}
-use Rattle.sqs_redrive.specs.declared.transfers.Outbound.{Outbound}
-use Rattle.sqs_model.specs.declared.agents.ActorSettings.{ActorSettings}
-use Rattle.sqs_model.specs.Actor.{Actor}
-use Rattle.sqs_model.specs.Dues.{dues, least_due}
-use Rattle.sqs_model.specs.Queue.{Entry, Queue}
-use Rattle.sqs_model.specs.Run.{IsRunOf, Run, after}
-use Rattle.sqs_model.specs.Scenario.{Scenario, numbered_actors, numbered_tasks, opening, opening_actor, opening_site, opening_task}
-use Rattle.sqs_model.specs.Site.{Site, accepted, number_of}
-use Rattle.sqs_model.specs.Step.{Handled, handled}
-use Rattle.sqs_model.specs.World.{Stepped, due_by, world_due, delivered, delivered_one, handled_among, handled_here, handled_there, is_due, next_due, stepped_at}
-use Rattle.sqs_model.proofs.Branches.{either, either_by}
-use Rattle.sqs_model.proofs.Counts.{ascends_lower}
-use Rattle.sqs_model.proofs.Members.{In}
-use Rattle.sqs_model.proofs.Opening.{ascends_enumerated, ascends_filter, ascends_map}
 use Rattle.sqs_model.proofs.WorldAccounts.{due_fits}
 use Rattle.sqs_model.proofs.WorldMoves.{is_due_least, least_in}
 use Rattle.sqs_laws.specs.Words.{EachRow}
@@ -32,12 +11,7 @@ use Rattle.sqs_laws.proofs.Holding.{IsInformed}
 use Rattle.sqs_laws.proofs.Moments.{IsFrom, IsTimely, does_timely, due_timely, IsOpen, does_open, due_open}
 use Rattle.sqs_laws.proofs.Numbers.{due_over}
 use Rattle.sqs_laws.proofs.Polled.{IsPolled, due_polls}
-use Rattle.sim_clock.proofs.Lists.{all_inserted}
-use Rattle.std.specs.Ordering.{on}
-use Rattle.sim_clock.specs.Order.{key_cmp}
-use Rattle.sqs_redrive.specs.Transfers.{transfer_key}
 use Rattle.sqs_redrive.specs.declared.settings.TaskSettings.{TaskSettings}
-use Rattle.sqs_model.specs.Task.{Task}
 use Rattle.sqs_laws.proofs.Moves.{FitsSender, Chain, IsBehind, IsStocked, Keeps, Move, chain_keeps, does_keep, moves_own, AreTraced, IsTraced}
 use Rattle.sqs_laws.proofs.Naming.{NamesOwn}
 use Rattle.sqs_laws.proofs.Traces.{does_trace, load_later, apart_traced}

@@ -3,6 +3,7 @@
 use Rattle.std.specs.List.{range_with_len}
 use Rattle.std.specs.Prelude.{All, Bool, IsTrue, List, None, Some, count_by, false, flat_map, length, map, max, suc, true, zero, if◌then◌else◌, nat_le, nat_lt, not, slice_get, ℕ, ◌&&◌, [], ◌*◌, ◌+◌, ◌++◌, ◌-◌, ◌<◌, ◌==◌, ◌∷◌, ◌≡◌, ◌≤◌, ◌⊎◌, ◌||◌, Option}
 use Rattle.sim_clock.specs.declared.refusal.Refusal.TheVariants as refusals
+use Rattle.sim_engine.specs.Members.{In}
 use Rattle.sqs_message.specs.declared.ids.MessageId.{MessageId}
 use Rattle.sqs_message.specs.declared.ids.Origin.{Origin}
 use Rattle.sqs_message.specs.declared.row.Detail.TheVariants as details
@@ -21,10 +22,10 @@ use Rattle.sqs_model.specs.declared.agents.ActorSettings.{ActorSettings}
 use Rattle.sqs_model.specs.Accounts.{is_deleted, is_expired, origin_in}
 use Rattle.sqs_model.specs.declared.finals.FinalMessage.{FinalMessage}
 use Rattle.sqs_model.specs.declared.finals.FinalTransfer.{FinalTransfer}
-use Rattle.sqs_model.specs.Longest.{deduplication_interval, longest_flight}
+use Rattle.sqs_model.specs.Longest.{deduplication_interval, longest_flight, longest_timeout}
 use Rattle.sqs_model.specs.Scenario.{Scenario, least_latency}
-use Rattle.sqs_laws.specs.Sends.{AsksFor, Given, GivesAs, IsByCall, IsSender, delay_given, key_given, milliseconds_or}
-use Rattle.sqs_laws.specs.Words.{EachNaming, EachRow, accepted_by, arrives_at, came_by, changed, comes, comings, flight, flying, goes_to, has_left, in_flight_at, is_arrive, is_change, is_delete, is_gone, is_in_flight, is_move, is_redrive, is_release, is_repeat, is_send, may_follow, origin_of, received, received_by, that_stay, times, touches, was_released}
+use Rattle.sqs_laws.specs.Sends.{AsksFor, AsksToChangeAs, Given, GivesAs, IsByCall, IsSender, delay_given, key_given, milliseconds_or}
+use Rattle.sqs_laws.specs.Words.{EachNaming, EachRow, accepted_by, arrives_at, came_by, changed, comes, comings, flight, flying, goes_to, has_left, in_flight_at, is_arrive, is_change, is_delete, is_gone, is_in_flight, is_move, is_redrive, is_refused, is_release, is_repeat, is_send, may_follow, origin_of, received, received_by, that_stay, times, touches, was_released}
 
 -- The end is the end. The messages that come to a queue are numbered from 0 on, and no row names one before it comes.
 -- Once it was deleted, has expired, or left for another queue, only answers gone and repeat and a consumer's fail and
@@ -105,10 +106,35 @@ change_answer before m count =
     else (if flying m before && count == times m before then answers.Ok
     else answers.Refused refusals.MessageNotInflight)
 
+-- a change for so many seconds would keep its message in flight for more than 12 hours after its last receive
+pub record IsOverLongest (before : List Row) (r : Row) (seconds : ℕ) : Type 0 where
+  pub message : MessageId
+  pub count : ℕ
+  pub known : Known before r message count
+  pub newest : IsTrue (flying message before && count == times message before)
+  pub received : Row
+  pub last : received_by message before ≡ Some received
+  pub over : received.key.at + longest_flight < r.key.at + 1000 * seconds
+
+-- a change asks for so many seconds, which it tells if it is ok; it is BadTimeout just if these are more than 12 hours,
+-- or end too late
+pub record IsBadIfTooLong (s : Scenario) (before : List Row) (r : Row) : Type 0 where
+  pub text : List ℕ
+  pub given : r.receipt ≡ receipts.Given text
+  pub seconds : ℕ
+  pub asked : (q : QueueSettings) → slice_get s.queues r.queue ≡ Some q
+      → AsksToChangeAs s q r.agent r.key.at text seconds
+  pub told : IsTrue (changed r) → r.detail ≡ details.Timeout seconds
+  pub bad : r.answer ≡ answers.Refused refusals.BadTimeout → (longest_timeout < seconds)
+      ⊎ IsOverLongest before r seconds
+  pub too_long : (longest_timeout < seconds) ⊎ IsOverLongest before r seconds
+      → r.answer ≡ answers.Refused refusals.BadTimeout
+
 -- Receipts. The c-th receive of message n at queue S gives the receipt r-S-n-c. A delete by it is gone if the message
 -- has left, deleted if it is the newest (at a FIFO queue: of a message in flight), kept if it is an older one at a
 -- standard queue, and else ReceiptHandleIsInvalid, as for a receipt never given. A change is ok if it is the newest
--- of a message in flight, and else MessageNotInflight, or ReceiptHandleIsInvalid if never given; or it is BadTimeout.
+-- of a message in flight, and else MessageNotInflight, or ReceiptHandleIsInvalid if never given; or it is BadTimeout,
+-- just if it asks for more than 12 hours or would keep the message in flight for longer after its last receive.
 pub record Receipts (s : Scenario) (rows : List Row) : Type 0 where
   pub made : EachNaming rows (λ before r m. IsTrue (received r)
       → r.receipt ≡ receipts.Made (record { site = r.queue; number = m.number; count = times m before + 1 }))
@@ -118,6 +144,7 @@ pub record Receipts (s : Scenario) (rows : List Row) : Type 0 where
   pub changes : EachRow rows (λ before r. IsTrue (is_change r.kind)
       → (m : MessageId) (count : ℕ) → Known before r m count
       → (r.answer ≡ change_answer before m count) ⊎ (r.answer ≡ answers.Refused refusals.BadTimeout))
+  pub timeouts : EachRow rows (λ before r. IsTrue (is_change r.kind) → IsBadIfTooLong s before r)
   pub others : EachRow rows (λ before r. IsTrue (is_delete r.kind || is_change r.kind)
       → ((m : MessageId) × (count : ℕ) × Known before r m count)
       ⊎ ((r.answer ≡ answers.Refused refusals.ReceiptHandleIsInvalid)
@@ -219,12 +246,24 @@ pub record RepeatsRecent (s : Scenario) (before : List Row) (r : Row) : Type 0 w
   pub recent : r.key.at < by.key.at + deduplication_interval
   pub same : SendTheSame s r by
 
+-- two rows may send the same to a queue: what an actor of each gives has one deduplication id and one scope
+abbrev pub MaySendTheSame : Scenario → Row → Row → Type 0
+MaySendTheSame s r x =
+    (q : QueueSettings) × (slice_get s.queues r.queue ≡ Some q)
+    × (a : Given) × (b : Given) × GivesAs s r.agent r.key.at a × GivesAs s x.agent x.key.at b
+    × (key_given q.kind a ≡ key_given q.kind b)
+
 -- Repeats. A row with the answer repeat is of a FIFO queue, and names a message that came there less than 5 minutes
 -- before. If it is of a send and the message was sent, both sends have one deduplication id, in one scope. At a
--- standard queue nothing is a repeat.
+-- standard queue nothing is a repeat. At a FIFO queue a send is a repeat, or refused, if one with its deduplication id
+-- and scope was new there less than 5 minutes before.
 pub record Repeats (s : Scenario) (rows : List Row) : Type 0 where
   pub fifo : EachRow rows (λ before r. IsTrue (is_repeat r.answer) → IsTrue (fifo_at s r))
   pub recent : EachRow rows (λ before r. IsTrue (is_repeat r.answer) → RepeatsRecent s before r)
+  pub again : EachRow rows (λ before r. IsTrue (is_send r.kind && fifo_at s r)
+      → (x : Row) → In before x → x.queue ≡ r.queue → IsTrue (is_send x.kind && comes x)
+      → r.key.at < x.key.at + deduplication_interval → MaySendTheSame s r x
+      → IsTrue (is_repeat r.answer || is_refused r.answer))
 
 -- whether a number is that of an actor
 abbrev pub is_actor_of : Scenario → ℕ → Bool
@@ -263,17 +302,19 @@ pub record Delays (s : Scenario) (rows : List Row) : Type 0 where
       → m.site ≡ r.queue → IsDelayed s before m by delay → r.key.at ≤ by.key.at + delay)
   pub at_last : (m : MessageId) (by : Row) (delay : ℕ) → IsDelayed s rows m by delay → s.horizon < by.key.at + delay
 
--- when the visibility timeout ends that a receive or a change began; that of a receive is asked for, or the queue's
+-- when the visibility timeout ends that a receive or a change began; that of a receive is asked for, or the queue's,
+-- and at most 12 hours
 pub record EndsAt (s : Scenario) (f : Row) (end : ℕ) : Type 0 where
   pub by_receive : IsTrue (received f) → (q : QueueSettings) × (timeout : Option ℕ)
       × (slice_get s.queues f.queue ≡ Some q) × AsksFor s f.agent f.key.at timeout
       × (end ≡ f.key.at + milliseconds_or q.visibility timeout)
+  pub at_most : IsTrue (received f) → end ≤ f.key.at + longest_flight
   pub by_change : IsTrue (changed f) → (seconds : ℕ) × (f.detail ≡ details.Timeout seconds)
       × (end ≡ f.key.at + 1000 * seconds)
 
 -- Releases. A message in flight is released, or leaves for the dead-letter queue, exactly at the end of the timeout of
 -- its last receive or change. While it is in flight its queue has no row from after that, and at the end of the log it
--- ends past the horizon. No change ends later than 12 hours after the last receive.
+-- ends past the horizon. No timeout ends later than 12 hours after the last receive.
 pub record Releases (s : Scenario) (rows : List Row) : Type 0 where
   pub ends : EachNaming rows (λ before r m. IsTrue (is_release r.kind || is_redrive r.kind)
       → (f : Row) → flight m before ≡ Some f → EndsAt s f r.key.at)

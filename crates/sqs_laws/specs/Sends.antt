@@ -1,22 +1,25 @@
 -- What actors give to what they send: a body, a delay, a group and a deduplication id; and what receives ask for.
 use Rattle.std.specs.Fmt.{decimal}
-use Rattle.std.specs.Prelude.{List, None, Option, Some, length, slice_get, suc, zero, ℕ, ◌*◌, ◌+◌, ◌-◌, ◌≡◌, ◌≤◌}
+use Rattle.std.specs.Prelude.{List, None, Option, Some, length, slice_get, suc, unwrap_or, zero, ℕ, ◌*◌, ◌+◌, ◌-◌, ◌/◌, ◌≡◌, ◌≤◌, ◌⊎◌}
 use Rattle.sim_engine.specs.Members.{In}
 use Rattle.sqs_message.specs.declared.calls.Call.{Call}
 use Rattle.sqs_message.specs.declared.calls.Call.TheVariants as calls
 use Rattle.sqs_message.specs.declared.calls.ScriptCall.{ScriptCall}
+use Rattle.sqs_message.specs.declared.ids.Receipt.{Receipt}
 use Rattle.sqs_message.specs.declared.row.Row.{Row}
 use Rattle.sqs_model.specs.declared.agents.ActorSettings.{ActorSettings}
+use Rattle.sqs_model.specs.declared.agents.ConsumerSettings.{ConsumerSettings}
 use Rattle.sqs_model.specs.declared.agents.ProducerSettings.{ProducerSettings}
 use Rattle.sqs_model.specs.declared.agents.Role.{Role}
 use Rattle.sqs_model.specs.declared.agents.Role.TheVariants.{Consumer, Producer, Scaler, Script}
 use Rattle.sqs_message.specs.Bodies.{filled}
+use Rattle.sqs_message.specs.Ids.{receipt_text}
 use Rattle.sqs_redrive.specs.declared.settings.Kind.{Kind}
 use Rattle.sqs_redrive.specs.declared.settings.Kind.TheVariants.{Fifo, Standard}
 use Rattle.sqs_redrive.specs.declared.settings.QueueSettings.{QueueSettings}
 use Rattle.sqs_redrive.specs.declared.settings.Scope.{Scope}
 use Rattle.sqs_redrive.specs.declared.settings.Scope.TheVariants as scopes
-use Rattle.sqs_model.specs.Actor.{group_of, id_given}
+use Rattle.sqs_model.specs.Actor.{backoff_at, backoff_drawn, group_of, id_given}
 use Rattle.sqs_model.specs.Calls.{deduplication_id}
 use Rattle.sqs_model.specs.Draw.{Draws, drawn_time}
 use Rattle.sqs_model.specs.Scenario.{Scenario, opening_draws}
@@ -109,6 +112,28 @@ abbrev pub AsksFor : Scenario → ℕ → ℕ → Option ℕ → Type 0
 AsksFor s agent at timeout =
     (a : ActorSettings) × (slice_get s.actors (agent - length s.queues) ≡ Some a)
     × AsksBy (MayGiveAt at timeout) a.role timeout
+
+-- a consumer gives a message of a failed service the timeout that its settings have for so many receives
+pub record BacksOff (c : ConsumerSettings) (text : List ℕ) (seconds : ℕ) : Type 0 where
+  pub receipt : Receipt
+  pub shown : text ≡ receipt_text receipt
+  pub draws : Draws
+  pub timeout : seconds ≡ (backoff_drawn c.jitter (backoff_at c.backoff receipt.count) draws).0
+
+-- how many seconds a change of an actor asks for, by a text at a moment: those of the script's call, or of the
+-- consumer's settings, which prolong a timeout as they have it, or as the queue has
+abbrev pub AsksToChange : QueueSettings → Role → ℕ → List ℕ → ℕ → Type 0
+AsksToChange q (Script cs) at text seconds =
+    (c : ScriptCall) × In cs c × (c.at ≡ at) × (c.call ≡ calls.Change text seconds)
+AsksToChange q (Consumer c) at text seconds =
+    (seconds ≡ unwrap_or c.timeout (q.visibility / 1000)) ⊎ BacksOff c text seconds
+AsksToChange q (Producer p) at text seconds = ⊥
+AsksToChange q (Scaler s) at text seconds = ⊥
+
+-- the same of the actor of this number
+abbrev pub AsksToChangeAs : Scenario → QueueSettings → ℕ → ℕ → List ℕ → ℕ → Type 0
+AsksToChangeAs s q agent at text seconds =
+    (a : ActorSettings) → slice_get s.actors (agent - length s.queues) ≡ Some a → AsksToChange q a.role at text seconds
 
 -- the scope of what is given, which is its group or the whole queue, and its deduplication id: its own, or of its body
 abbrev pub scope_given : Scope → Option (List ℕ) → Option (List ℕ)

@@ -68,6 +68,10 @@ abbrev pub is_ok : RowAnswer → Bool
 is_ok answers.Ok = true
 is_ok _ = false
 
+abbrev pub is_refused : RowAnswer → Bool
+is_refused (answers.Refused e) = true
+is_refused _ = false
+
 abbrev pub is_gone : RowAnswer → Bool
 is_gone answers.Gone = true
 is_gone _ = false

@@ -20,12 +20,12 @@ use Rattle.sqs_model.proofs.Branches.{either, either_by}
 -- what holds of each refusal of a receive and of what it gives
 pub receive_by :
     (P : Result (List Got) Refusal × Queue → Type 0) (q : Queue) (now max : ℕ) (timeout : Option ℕ) (set : ℕ) (short : Bool) → ((e : Refusal) → P (Err e, q))
-    → P (answered (give_most q now max timeout set)) → P (receive q now max timeout set short)
+    → (is_bad_timeout timeout ≡ false → P (answered (give_most q now max timeout set))) → P (receive q now max timeout set short)
 receive_by P q now max timeout set short refused given =
     let full : Bool = short && nat_le q.settings.in_flight_limit (in_flight q) in
     let got : Result (List Got) Refusal × Queue = answered (give_most q now max timeout set) in
-    either P (is_bad_timeout timeout) (Err refusals.BadTimeout, q) (if full then (Err refusals.OverLimit, q) else got) (refused refusals.BadTimeout)
-    (either P full (Err refusals.OverLimit, q) got (refused refusals.OverLimit) given)
+    either_by P (is_bad_timeout timeout) (Err refusals.BadTimeout, q) (if full then (Err refusals.OverLimit, q) else got) (λ _. refused refusals.BadTimeout)
+    (λ e. either P full (Err refusals.OverLimit, q) got (refused refusals.OverLimit) (given e))
 
 -- what holds of each answer of a delete
 pub record IsOfDeletes (P : Result Deleted Refusal × Queue → Type 0) (q : Queue) (now : ℕ) (r : Receipt) : Type 0 where

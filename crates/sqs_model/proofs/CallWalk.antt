@@ -39,7 +39,7 @@ use Rattle.sqs_model.specs.Calls.{change}
 use Rattle.sqs_model.specs.Draw.{Draws, drawn_uniform}
 use Rattle.sqs_model.specs.Polls.{acts_found, acts_most, acts_next, answer_polls, answer_when, can_give, poll_answered, poll_given, told, without_poll}
 use Rattle.sqs_model.specs.Queue.{Queue}
-use Rattle.sqs_model.specs.Receive.{give_most, receive}
+use Rattle.sqs_model.specs.Receive.{give_most, is_bad_timeout, receive}
 use Rattle.sqs_model.specs.Return.{released}
 use Rattle.sqs_model.specs.Site.{Core, Effect, Poll, Site, actor_numbered, and_then, has_key, is_actor, no_effect, number_of, says, task_numbered, with_actor, with_task}
 use Rattle.sqs_model.specs.Step.{Handled, arrival_done, ends_at, handle_arrival, handle_class, handle_expiry, handle_step, handled, handled_when, is_arrival, release_done, with_polls, woken_by}
@@ -109,6 +109,12 @@ abbrev pub IsDone : Act → Type 0
 IsDone acts.Nothing = ⊥
 IsDone act = Unit {0}
 
+-- an act that changes the timeout of a receipt's message to so many seconds
+abbrev pub ChangesTo : Queue → Act → List ℕ → ℕ → Type 0
+ChangesTo q (acts.Change own seconds) text timeout = (own ≡ text) × (seconds ≡ timeout)
+ChangesTo q (acts.Prolong own seconds) text timeout = (own ≡ text) × (unwrap_or seconds (q.settings.visibility / 1000) ≡ timeout)
+ChangesTo q act text timeout = ⊥
+
 -- A law of turns. `At past site` is what holds of a site after what was done so far. `Goes past effect` is what holds of an
 -- effect that began after what was done so far. Each other field is one call, or one way in which a turn changes a site, and
 -- says that it keeps the law.
@@ -132,16 +138,19 @@ pub record CallLaw (key : Key) : Type 1 where
   -- what holds of an actor after its turn among the actors of its site, and of its act
   pub Stands : Queue → List Actor → Actor → Type 0
   pub May : Core → Actor → Act → Type 0
+  -- the timeout of a receive that is not refused
+  pub Fine : Option ℕ → Type 0
+  pub fine : (timeout : Option ℕ) → is_bad_timeout timeout ≡ false → Fine timeout
   -- a receive with a timeout that an actor asks for, or that waits
   pub Asks : Past → ℕ → Option ℕ → Type 0
   pub later : (p : Past) (e : Effect) (agent : ℕ) (timeout : Option ℕ) → Asks p agent timeout → Asks (after p e) agent timeout
-  pub asked : (p : Past) (a : Actor) (c : Core) (max wait : ℕ) (timeout : Option ℕ) → Stands c.queue c.actors a → May c a (acts.Receive max wait timeout) → At p c → Asks p a.number timeout
+  pub asked : (p : Past) (a : Actor) (c : Core) (max wait : ℕ) (timeout : Option ℕ) → Fine timeout → Stands c.queue c.actors a → May c a (acts.Receive max wait timeout) → At p c → Asks p a.number timeout
   pub waiting : (p : Past) (c : Core) → At p c → Each (λ x. Asks p x.actor x.timeout) c.polls
   -- calls of a queue, each with its rows
   pub gives :
       (p : Past) (c : Core) (agent max : ℕ) (timeout : Option ℕ) (set : ℕ) → Asks p agent timeout → At p c
       → Goes p (given key c agent timeout (give_most c.queue key.at max timeout set)) × Hears (given key c agent timeout (give_most c.queue key.at max timeout set)).core (give_most c.queue key.at max timeout set).1
-  pub changes : (p : Past) (a : Actor) (c : Core) (text : List ℕ) (timeout : ℕ) → At p c → Goes p (change_made key a c text timeout (read_receipt text)).effect
+  pub changes : (p : Past) (a : Actor) (c : Core) (x : Act) (text : List ℕ) (timeout : ℕ) → ChangesTo c.queue x text timeout → May c a x → At p c → Goes p (change_made key a c text timeout (read_receipt text)).effect
   pub deletes : (p : Past) (a : Actor) (c : Core) (text : List ℕ) → At p c → Goes p (delete_made key a c text (read_receipt text)).effect
   pub sends :
       (p : Past) (a : Actor) (c : Core) (body : List ℕ) (delay : Option ℕ) (group id : Option (List ℕ)) → May c a (acts.Send body delay group id) → At p c
@@ -157,7 +166,7 @@ pub record CallLaw (key : Key) : Type 1 where
       → At p (with_actor c (next a key.at w).1) × Stands c.queue (with_actor c (next a key.at w).1).actors (next a key.at w).1 × May (with_actor c (next a key.at w).1) (next a key.at w).1 (next a key.at w).0
   pub acted : (p : Past) (a : Actor) (c : Core) (x : Act) → IsDone x → Stands c.queue c.actors a → May c a x → At p c → Goes p (act_made key a c x).effect → Acted (act_made key a c x).effect.core a.number
   pub polls :
-      (p : Past) (a : Actor) (c : Core) (max wait : ℕ) (timeout : Option ℕ) → (wait == 0) ≡ false → Stands c.queue c.actors a → May c a (acts.Receive max wait timeout)
+      (p : Past) (a : Actor) (c : Core) (max wait : ℕ) (timeout : Option ℕ) → (wait == 0) ≡ false → Fine timeout → Stands c.queue c.actors a → May c a (acts.Receive max wait timeout)
       → IsNameless key c (receive_row key c a.number answers.Wait) → At p c → Goes p (says (with_poll key a c max wait timeout) (receive_row key c a.number answers.Wait))
   pub serves : (p : Past) (a : Actor) (c : Core) (id : MessageId) (r : Receipt) (failed : Bool) (forwards : List Outbound) → May c a (acts.Serve id r failed forwards) → At p c → Goes p (serve_made key a c id r failed forwards).effect
 
@@ -185,32 +194,32 @@ module _ (key : Key) (law : CallLaw key) where
   plainly : (p : Past) (m : Made) → IsBare m.answer → Goes p m.effect → Makes p m
   plainly p m b g = record { goes = g; told = bare_heard Hears law.hears_none m.effect.core m.answer b }
 
-  none_goes : (p : Past) (a : Actor) (c : Core) (max wait : ℕ) (timeout : Option ℕ) → Stands c.queue c.actors a → ((wait == 0) ≡ false → May c a (acts.Receive max wait timeout)) → At p c → Makes p (receive_none key a c max wait timeout)
+  none_goes : (p : Past) (a : Actor) (c : Core) (max wait : ℕ) (timeout : Option ℕ) → Stands c.queue c.actors a → ((wait == 0) ≡ false → law.Fine timeout × May c a (acts.Receive max wait timeout)) → At p c → Makes p (receive_none key a c max wait timeout)
   none_goes p a c max wait timeout s m h =
       either_by (Makes p) (wait == 0) (made (says c (receive_row key c a.number answers.Empty)) (told_by.Got []))
       (made (says (with_poll key a c max wait timeout) (receive_row key c a.number answers.Wait)) told_by.Waiting)
       (λ e. plainly p _ tt (says_only p c _ (record { at_key = refl; at_site = refl; silent = λ o. refl; nameless = refl; kind = tt }) h))
-      (λ e. plainly p _ tt (law.polls p a c max wait timeout e s (m e) (record { at_key = refl; at_site = refl; silent = λ o. refl; nameless = refl; kind = tt }) h))
+      (λ e. plainly p _ tt (law.polls p a c max wait timeout e (m e).0 s (m e).1 (record { at_key = refl; at_site = refl; silent = λ o. refl; nameless = refl; kind = tt }) h))
 
   pub some_goes :
-      (p : Past) (a : Actor) (c : Core) (max wait : ℕ) (timeout : Option ℕ) (x : Queue × List Got) → Stands c.queue c.actors a → ((wait == 0) ≡ false → May c a (acts.Receive max wait timeout)) → At p c
+      (p : Past) (a : Actor) (c : Core) (max wait : ℕ) (timeout : Option ℕ) (x : Queue × List Got) → Stands c.queue c.actors a → ((wait == 0) ≡ false → law.Fine timeout × May c a (acts.Receive max wait timeout)) → At p c
       → Goes p (given key c a.number timeout x) × Hears (given key c a.number timeout x).core x.1 → Makes p (receive_some key a c max wait timeout x.0 x.1)
   some_goes p a c max wait timeout (q, []) s m h k = none_goes p a c max wait timeout s m h
   some_goes p a c max wait timeout (q, g ∷ gs) s m h k = record { goes = k.0; told = k.1 }
 
-  receive_goes : (p : Past) (a : Actor) (c d : Core) (max wait : ℕ) (timeout : Option ℕ) (set : ℕ) (short : Bool) → d.queue ≡ c.queue → Stands d.queue d.actors a → ((wait == 0) ≡ false → May d a (acts.Receive max wait timeout)) → Asks p a.number timeout → At p c → At p d → Makes p (receive_made key a c d max wait timeout (receive d.queue key.at max timeout set short))
+  receive_goes : (p : Past) (a : Actor) (c d : Core) (max wait : ℕ) (timeout : Option ℕ) (set : ℕ) (short : Bool) → d.queue ≡ c.queue → Stands d.queue d.actors a → ((wait == 0) ≡ false → May d a (acts.Receive max wait timeout)) → (law.Fine timeout → Asks p a.number timeout) → At p c → At p d → Makes p (receive_made key a c d max wait timeout (receive d.queue key.at max timeout set short))
   receive_goes p a c d max wait timeout set short e s m q h k =
       receive_by (λ x. Makes p (receive_made key a c d max wait timeout x)) d.queue key.at max timeout set short
       (λ r. plainly p _ tt (says_only p c _ (record { at_key = refl; at_site = refl; silent = λ o. refl; nameless = refl; kind = tt }) h))
-      (some_goes p a d max wait timeout (give_most d.queue key.at max timeout set) s m k (law.gives p d a.number max timeout set q k))
+      (λ b. let f : law.Fine timeout = law.fine timeout b in some_goes p a d max wait timeout (give_most d.queue key.at max timeout set) s (λ e. (f, m e)) k (law.gives p d a.number max timeout set (q f) k))
 
   as_goes : (k : Kind) (p : Past) (a : Actor) (c : Core) (max wait : ℕ) (timeout : Option ℕ) → Stands c.queue c.actors a → May c a (acts.Receive max wait timeout) → At p c → Makes p (receive_as k key a c max wait timeout)
-  as_goes (Fifo content scope) p a c max wait timeout s m h = receive_goes p a c c max wait timeout (all_hosts c.queue.settings.kind) false refl s (λ _. m) (law.asked p a c max wait timeout s m h) h h
+  as_goes (Fifo content scope) p a c max wait timeout s m h = receive_goes p a c c max wait timeout (all_hosts c.queue.settings.kind) false refl s (λ _. m) (λ f. law.asked p a c max wait timeout f s m h) h h
   as_goes (Standard hosts sampled) p a c max wait timeout s m h =
       let drawn : ℕ × Draws = drawn_uniform 0 (hosts - 1) c.draws in
       either (Makes p) (wait == 0) (short_poll key a c max timeout hosts sampled drawn) (long_poll key a c max wait timeout)
-      (receive_goes p a c (record c { draws = drawn.1 }) max 0 timeout _ true refl s (λ e. absurd (true≢false e)) (law.asked p a c max wait timeout s m h) h (law.draws p c (hosts - 1) h))
-      (receive_goes p a c c max wait timeout (all_hosts c.queue.settings.kind) false refl s (λ _. m) (law.asked p a c max wait timeout s m h) h h)
+      (receive_goes p a c (record c { draws = drawn.1 }) max 0 timeout _ true refl s (λ e. absurd (true≢false e)) (λ f. law.asked p a c max wait timeout f s m h) h (law.draws p c (hosts - 1) h))
+      (receive_goes p a c c max wait timeout (all_hosts c.queue.settings.kind) false refl s (λ _. m) (λ f. law.asked p a c max wait timeout f s m h) h h)
 
   start_goes : (p : Past) (a : Actor) (c : Core) (task : ℕ) (o : Option Task) → task_numbered task c ≡ o → At p c → Makes p (start_made key a c task o)
   start_goes p a c task None e h = plainly p _ tt (nothing p c h)
@@ -251,10 +260,10 @@ module _ (key : Key) (law : CallLaw key) where
   act_goes p a c (acts.Send body delay group id) s m h = plainly p _ tt (law.sends p a c body delay group id m h)
   act_goes p a c (acts.Receive max wait timeout) s m h = as_goes c.queue.settings.kind p a c max wait timeout s m h
   act_goes p a c (acts.Delete text) s m h = deletes_goes p a c text (read_receipt text) (law.deletes p a c text h)
-  act_goes p a c (acts.Change text timeout) s m h = changes_goes p a c text timeout (read_receipt text) (law.changes p a c text timeout h)
+  act_goes p a c (acts.Change text timeout) s m h = changes_goes p a c text timeout (read_receipt text) (law.changes p a c (acts.Change text timeout) text timeout (refl, refl) m h)
   act_goes p a c (acts.Prolong text timeout) s m h =
       let seconds : ℕ = unwrap_or timeout (c.queue.settings.visibility / 1000) in
-      changes_goes p a c text seconds (read_receipt text) (law.changes p a c text seconds h)
+      changes_goes p a c text seconds (read_receipt text) (law.changes p a c (acts.Prolong text timeout) text seconds (refl, refl) m h)
   act_goes p a c (acts.Start task) s m h = start_goes p a c task (task_numbered task c) refl h
   act_goes p a c (acts.Cancel task) s m h = cancel_goes p a c task (task_numbered task c) refl h
   act_goes p a c (acts.Serve id r failed forwards) s m h = serves_goes p a c id r failed forwards (law.serves p a c id r failed forwards m h)

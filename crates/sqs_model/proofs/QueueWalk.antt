@@ -117,7 +117,7 @@ module _ (now : ℕ) (law : QueueLaw now) where
 
   pub receive_keeps : (q : Queue) (at max : ℕ) (timeout : Option ℕ) (set : ℕ) (short : Bool) → At q → Leaves (receive q at max timeout set short)
   receive_keeps q at max timeout set short h =
-      receive_by (λ x. Leaves x) q at max timeout set short (λ e. h) (give_keeps at (timeout_of q timeout) (to_give q max set) q h).0
+      receive_by (λ x. Leaves x) q at max timeout set short (λ e. h) (λ _. (give_keeps at (timeout_of q timeout) (to_give q max set) q h).0)
 
   -- sends
   standard_keeps : (q : Queue) (body : List ℕ) (delay : Option ℕ) → At q → Leaves (send_standard q now body delay)

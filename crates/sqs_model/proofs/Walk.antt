@@ -197,10 +197,12 @@ module _ (key : Key) (law : TurnLaw key) where
         Acted = λ c n. Unit {0};
         Asks = λ p agent timeout. Unit {0};
         later = λ p e agent timeout a. tt;
-        asked = λ p a c max wait timeout s m h. tt;
+        Fine = λ timeout. Unit {0};
+        fine = λ timeout b. tt;
+        asked = λ p a c max wait timeout f s m h. tt;
         waiting = λ p c h. always_each (λ x. Unit {0}) (λ x. tt) c.polls;
         gives = λ p c agent max timeout set a h. (given_goes p c agent timeout (give_most c.queue key.at max timeout set) h (law.gives p c max timeout set h), tt);
-        changes = λ p a c text timeout h. changes_by p a c text timeout (read_receipt text) h;
+        changes = λ p a c x text timeout i m h. changes_by p a c text timeout (read_receipt text) h;
         deletes = λ p a c text h. deletes_by p a c text (read_receipt text) h;
         sends = λ p a c body delay group id m h. law.sends p a c body delay group id h;
         draws = law.draws;
@@ -210,7 +212,7 @@ module _ (key : Key) (law : TurnLaw key) where
         May = λ c a x. Sends Sent x;
         turns = λ p n c a w e t h. law.turns p n c a w e h;
         acted = λ p a c x i s m h g. tt;
-        polls = λ p a c max wait timeout e s m i h. quiet p [] [] c (with_poll key a c max wait timeout) (_ ∷ []) h (record { at_key = i.at_key; at_site = i.at_site; silent = i.silent }, tt) (law.polls p a c max wait timeout e s h);
+        polls = λ p a c max wait timeout e f s m i h. quiet p [] [] c (with_poll key a c max wait timeout) (_ ∷ []) h (record { at_key = i.at_key; at_site = i.at_site; silent = i.silent }, tt) (law.polls p a c max wait timeout e s h);
         serves = λ p a c id r b os m h. serves_by p a c id r b os m h;
       }
 
@@ -225,7 +227,7 @@ module _ (key : Key) (law : TurnLaw key) where
   Follows f = (p : Past) (c : Core) → At p [] c → Goes p [] (f c)
 
   pub some_goes : (p : Past) (a : Actor) (c : Core) (max wait : ℕ) (timeout : Option ℕ) (x : Queue × List Got) → Stands c.actors a → At p [] c → Gives (At p) c timeout x → Goes p [] (receive_some key a c max wait timeout x.0 x.1).effect
-  some_goes p a c max wait timeout x s h k = (walk.some_goes key by_calls p a c max wait timeout x s (λ _. tt) h (given_goes p c a.number timeout x h k, tt)).goes
+  some_goes p a c max wait timeout x s h k = (walk.some_goes key by_calls p a c max wait timeout x s (λ _. (tt, tt)) h (given_goes p c a.number timeout x h k, tt)).goes
 
   pub act_goes : (p : Past) (a : Actor) (c : Core) (x : Act) → Stands c.actors a → Sends Sent x → At p [] c → Goes p [] (act_made key a c x).effect
   act_goes p a c x s o h = (walk.act_goes key by_calls p a c x s o h).goes
