@@ -11,6 +11,7 @@ use crate::holding::Holding;
 use crate::life::{LastAct, Life, copies_by};
 use sim_clock::Refusal;
 use sim_draw::Draws;
+use sqs_message::Ahead;
 use sqs_model::{ActorSettings, MOST_COUNT, Role, Standing};
 use sqs_redrive::Outbound;
 use std::alloc::Global;
@@ -71,7 +72,7 @@ impl Actor {
                 polls: 0,
                 sent: 0,
                 draws: Draws::new(seed, number),
-                room: Vec::new(alloc),
+                ahead: Ahead::new(alloc),
                 transfer_room: Vec::new(alloc),
             },
         }

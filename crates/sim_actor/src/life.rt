@@ -17,7 +17,7 @@ use crate::holding::Holding;
 pub(crate) use scaling::{act_scaling, copies_by};
 use sim_clock::Refusal;
 use sim_draw::Draws;
-use sqs_message::Receipt;
+use sqs_message::{Ahead, Receipt};
 use sqs_model::{Distribution, MOST_COUNT};
 use sqs_redrive::Outbound;
 use std::alloc::Global;
@@ -70,8 +70,8 @@ pub struct Life {
     pub(crate) polls: u64,
     pub(crate) sent: u64,
     pub(crate) draws: Draws,
-    // Where the bytes of a body are written.
-    pub(crate) room: Vec<u8>,
+    // The MD5s of the bodies that a producer sends next.
+    pub(crate) ahead: Ahead,
     // Memory for the transfers of an act. What is in it does not count.
     pub(crate) transfer_room: Vec<Outbound>,
 }

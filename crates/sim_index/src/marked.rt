@@ -191,6 +191,13 @@ impl<T> MarkedList<T> {
     pub fn least(&self) -> Option<Key>
         ensures { result ≡ least_of self.now.marks }
     {
+        *self.tree.least()
+    }
+
+    /// The key of the least entry due, where it stands.
+    pub fn least_due(&self) -> &Option<Key>
+        ensures { result.now ≡ least_of self.now.marks }
+    {
         self.tree.least()
     }
 

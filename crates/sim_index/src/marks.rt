@@ -25,6 +25,9 @@ const NO_NODE: Node = Node {
     flags: 0,
 };
 
+// That nothing is due.
+const NOTHING_DUE: Option<Key> = None;
+
 // How many places a tree may have.
 const MOST_PLACES: usize = 1 << 32;
 
@@ -393,10 +396,13 @@ impl Marks {
     }
 
     /// The key of the least entry due.
-    pub fn least(&self) -> Option<Key>
-        ensures { result ≡ least_of self.now }
+    pub fn least(&self) -> &Option<Key>
+        ensures { result.now ≡ least_of self.now }
     {
-        self.marks[self.nodes.get(1)?.place as usize].due
+        match self.nodes.get(1) {
+            None => &NOTHING_DUE,
+            Some(root) => &self.marks[root.place as usize].due,
+        }
     }
 
     /// The first place at which the least entry is due; none if nothing is due.

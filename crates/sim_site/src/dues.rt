@@ -7,19 +7,18 @@ use crate::agents::{Task, wake_of};
 use sim_actor::Actor;
 use sim_clock::{Key, lesser};
 
-/// Replaces a key, or none, by another key that is less; of two equal keys the first stays.
-pub fn take_lesser(best: &mut Option<Key>, other: Option<Key>)
-    ensures { best.new ≡ the_lesser best.old other }
+/// The lesser of two keys that may be absent, where it stands; of two equal keys the first.
+#[inline(always)]
+pub fn lesser_of<'a>(first: &'a Option<Key>, second: &'a Option<Key>) -> &'a Option<Key>
+    ensures { result.now ≡ the_lesser first.now second.now }
 {
-    let Some(key) = other else {
-        return;
+    let Some(key) = second else {
+        return first;
     };
-    if let Some(least) = best {
-        if !key.is_before(least) {
-            return;
-        }
+    match first {
+        Some(least) if !key.is_before(least) => first,
+        _ => second,
     }
-    *best = other;
 }
 
 /// The key of the least wake of some actors.

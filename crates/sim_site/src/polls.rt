@@ -162,10 +162,10 @@ impl Polls {
     }
 
     /// The key of the least end.
-    pub fn least_end(&self) -> Option<Key>
-        ensures { result ≡ least (map poll_key self.now) }
+    pub fn least_end(&self) -> &Option<Key>
+        ensures { result.now ≡ least (map poll_key self.now) }
     {
-        self.places.least()
+        self.places.least_due()
     }
 
     /// Removes the first poll, if there is one.

@@ -24,9 +24,9 @@ mod turns;
 
 use crate::actors::Actors;
 use crate::agents::Task;
-use crate::dues::{least_step, take_lesser};
+use crate::dues::{least_step, lesser_of};
 use crate::polls::Polls;
-use sim_clock::{Class, Key};
+use sim_clock::{Class, Key, lesser};
 use sim_draw::Draws;
 use sqs_queue::Queue;
 use std::alloc::Global;
@@ -149,14 +149,13 @@ impl Core {
         ensures due { result ≡ least (core_dues self.old) }
         ensures same { self.new ≡ self.old }
     {
-        let mut best = self.queue.least_due();
-        take_lesser(&mut best, self.polls.least_end());
-        take_lesser(&mut best, self.actors.least_wake());
+        let wake = self.actors.least_wake();
+        let of_queue = lesser_of(self.queue.least_due(), self.polls.least_end());
+        let best = *lesser_of(of_queue, &wake);
         if self.sample == 0 && self.tasks.is_empty() {
             return best;
         }
-        take_lesser(&mut best, self.sample_due());
-        take_lesser(&mut best, least_step(&self.tasks));
-        best
+        let best = lesser(best, self.sample_due());
+        lesser(best, least_step(&self.tasks))
     }
 }

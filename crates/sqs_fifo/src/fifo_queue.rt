@@ -138,7 +138,7 @@ impl FifoQueue {
     pub fn least_due(&self) -> Option<Key>
         ensures { result ≡ least (queue_dues self.now.queue) }
     {
-        self.queue.least_due()
+        *self.queue.least_due()
     }
 
     /// The number of messages in each state.

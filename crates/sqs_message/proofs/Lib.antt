@@ -1,4 +1,5 @@
-pub mod Numbers
+pub mod Blocks
 pub mod Dashes
 pub mod Filled
+pub mod Numbers
 pub mod Receipts

@@ -1,3 +1,4 @@
+pub mod Beside
 pub mod Bodies
 pub mod Handles
 pub mod Ids

@@ -7,6 +7,7 @@ ghost use Rattle.std.specs.Str.{bytes_eq};
 ghost use Rattle.md5.specs.Md5.{md5 as md5_of};
 ghost use Rattle.sqs_message.specs.Bodies.{contains, filled};
 
+use crate::ahead::Ahead;
 use crate::digest::body_md5;
 use crate::filling::{contains, contains_filled, fill};
 use crate::text::Text;
@@ -15,12 +16,12 @@ use std::alloc::{AllocError, Global};
 use std::marker::Model;
 use std::sync::Arc;
 
-// A text of which bodies are made.
+/// A text of which bodies are made.
 #[derive(Drop)]
 pub struct Source {
-    text: Text,
-    // Whether a message's number replaces each `{n}` in it.
-    numbered: bool,
+    pub(crate) text: Text,
+    /// Whether a message's number replaces each `{n}` in it.
+    pub(crate) numbered: bool,
 }
 
 /// The text of which a producer makes the bodies of its messages: each `{n}` in it is replaced by a
@@ -59,20 +60,20 @@ impl Template {
         })
     }
 
-    /// The body of the message with a number. Its bytes are written into `room`, which may be used
-    /// again.
+    /// The body of the message with a number. `left` is how many bodies are still to come, with this
+    /// one: the MD5s of the next four may be computed together, and stay in `ahead`.
     ///
     /// # Errors
     ///
     /// `AllocError` if memory runs out.
-    pub fn body(&self, number: u64, room: &mut Vec<u8>) -> Result<Body, AllocError>
+    pub fn body(&self, number: u64, left: u64, ahead: &mut Ahead) -> Result<Body, AllocError>
         ensures { IfOk result (λ b. b ≡ filled (decimal number) self.now) }
     {
-        fill(room, number, self.source.text.as_bytes())?;
+        let md5 = ahead.digest(&self.source, number, left)?;
         Ok(Body {
             source: Arc::try_clone(&self.source)?,
             number,
-            md5: body_md5(room.as_slice()),
+            md5,
         })
     }
 }

@@ -1,17 +1,20 @@
 //! Messages, their ids and receipts, the calls that actors make, and the rows of the log.
 #![tactic(auto)]
 
+mod ahead;
 mod body;
 mod calls;
 mod digest;
 mod filling;
 mod handle;
 mod ids;
+mod lanes;
 mod listed;
 mod message;
 mod row;
 mod text;
 
+pub use ahead::Ahead;
 pub use body::{Body, Template};
 pub use calls::{Call, Script, ScriptCall};
 pub use digest::{body_md5, body_sha256};

@@ -163,10 +163,10 @@ impl Shelf {
     }
 
     /// The key of the least entry due.
-    pub fn least(&self) -> Option<Key>
-        ensures { result ≡ least_of (map (λ s. s.mark) self.now.items) }
+    pub fn least(&self) -> &Option<Key>
+        ensures { result.now ≡ least_of (map (λ s. s.mark) self.now.items) }
     {
-        self.slots.least()
+        self.slots.least_due()
     }
 
     /// Whether the mark of any message has one of these flags.

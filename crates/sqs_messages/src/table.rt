@@ -218,8 +218,8 @@ impl MessageTable {
 
     /// The key of the next entry due: the least expiry or end of a delay or visibility timeout. It
     /// does not scan the messages.
-    pub fn least_due(&self) -> Option<Key>
-        ensures { result ≡ least (queue_dues self.now) }
+    pub fn least_due(&self) -> &Option<Key>
+        ensures { result.now ≡ least (queue_dues self.now) }
     {
         self.shelf.least()
     }

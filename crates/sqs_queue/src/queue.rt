@@ -141,8 +141,8 @@ impl Queue {
     }
 
     /// The key of the next entry due: the least expiry or end of a delay or visibility timeout.
-    pub fn least_due(&self) -> Option<Key>
-        ensures { result ≡ least (queue_dues self.now) }
+    pub fn least_due(&self) -> &Option<Key>
+        ensures { result.now ≡ least (queue_dues self.now) }
     {
         self.messages.least_due()
     }

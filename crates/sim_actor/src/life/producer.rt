@@ -105,7 +105,8 @@ impl Life {
         if MOST_COUNT - self.draws.taken() < group_words(&producer.groups) {
             return Err(Refusal::CountLimit);
         }
-        let body = producer.body.body(self.wakes, &mut self.room)?;
+        let left = producer.count.saturating_sub(self.wakes);
+        let body = producer.body.body(self.wakes, left, &mut self.ahead)?;
         let id = id(self.alloc, producer, self.number, self.wakes)?;
         let group = group(self.alloc, &producer.groups, self.wakes, &mut self.draws)?;
         self.count_wake();

@@ -29,7 +29,7 @@ fn mark(at: Option<u64>, flags: u32) -> Mark {
 }
 
 fn try_nothing(rt: &impl Abort, marks: &Marks, places: usize) {
-    let told = (marks.leaves().len(), marks.least(), marks.place_of_least());
+    let told = (marks.leaves().len(), *marks.least(), marks.place_of_least());
     let found = (marks.has_on(1), marks.next(0, 1));
     same(rt, (told, found), ((places, None, None), (false, None)));
 }
@@ -68,7 +68,7 @@ fn try_puts(rt: &impl Abort, marks: &mut Marks)
     for &(place, at, flags, least, first) in &PUTS {
         assert!(rt; place < marks.leaves().len());
         marks.put(place, &mark(at, flags));
-        let told = (marks.leaves().len(), marks.least(), marks.place_of_least());
+        let told = (marks.leaves().len(), *marks.least(), marks.place_of_least());
         same(rt, told, (8, wake(Some(least)), Some(first)));
     }
 }
@@ -229,4 +229,5 @@ fn a_list_is_cleared(rt: HostRuntime) {
     list.push(5, &NO_MARK).expect(&rt, "memory");
     list.clear();
     same(&rt, (list.values().len(), list.least()), (0, None));
+    same(&rt, *list.least_due(), None);
 }

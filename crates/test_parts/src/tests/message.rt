@@ -2,8 +2,8 @@ ghost use Rattle.std.specs.Prelude.{◌≡◌};
 
 use crate::tests::same::same;
 use sqs_message::{
-    Body, Call, HandleForm, Message, MessageId, Origin, Place, Receipt, ReceiptHandle, Script,
-    ScriptCall, Template, Text, body_md5, body_sha256,
+    Ahead, Body, Call, HandleForm, Message, MessageId, Origin, Place, Receipt, ReceiptHandle,
+    Script, ScriptCall, Template, Text, body_md5, body_sha256,
 };
 use std::alloc::{AllocError, Global};
 use std::process::Abort;
@@ -123,8 +123,8 @@ fn digests_of_abc(rt: HostRuntime) {
 fn bodies_are_made_of_a_template_and_a_number(rt: HostRuntime) {
     let template = text(&rt, rt.alloc(), b"a{n}b{n}{n");
     let template = Template::new(rt.alloc(), template).expect(&rt, "memory");
-    let mut room = Vec::new(rt.alloc());
-    let body = template.body(12, &mut room).expect(&rt, "memory");
+    let mut ahead = Ahead::new(rt.alloc());
+    let body = template.body(12, 1, &mut ahead).expect(&rt, "memory");
     let copy = body.copy().expect(&rt, "memory");
     try_bytes(&rt, rt.alloc(), &copy, b"a12b12{n");
     let found = (
@@ -133,6 +133,35 @@ fn bodies_are_made_of_a_template_and_a_number(rt: HostRuntime) {
         body.contains(b""),
     );
     same(&rt, found, (true, false, true));
+}
+
+// 52 letters and a number.
+const LONG: &[u8] = b"xxxxxxxxxxxxxxxxxxxxxxxxxxxxxxxxxxxxxxxxxxxxxxxxxxxx{n}";
+
+// What a template makes of some numbers, of which so many bodies are still to come, and their MD5s
+// (RFC 1321): short bodies four at a time, of one template and of another, and long ones.
+const BODIES_AHEAD: [(&[u8], u64, u64, &str); 8] = [
+    (b"{n}", 1, 5, "c4ca4238a0b923820dcc509a6f75849b"),
+    (b"{n}", 2, 4, "c81e728d9d4c2f636f067f89cc14862c"),
+    (b"{n}", 4, 2, "a87ff679a2f3e71d9181a67b7542122c"),
+    (b"{n}", 5, 1, "e4da3b7fbbce2345d7772b0674a318d5"),
+    (b"{n}{n}", 1, 4, "6512bd43d9caa6e02c990b0a82652dca"),
+    (b"{n}", 3, 3, "eccbc87e4b5ce2fe28308fd9f2a7baf3"),
+    (LONG, 9999, 9, "7ba16999473979743633649778799b2b"),
+    (b"{n}", u64::MAX, 4, "7e7825a3d8588a756abd0ce2ed07e121"),
+];
+
+#[test]
+fn digests_are_computed_ahead(rt: HostRuntime) {
+    let mut ahead = Ahead::new(rt.alloc());
+    for (letters, number, left, md5) in BODIES_AHEAD {
+        let template = text(&rt, rt.alloc(), letters);
+        let template = Template::new(rt.alloc(), template).expect(&rt, "memory");
+        let body = template
+            .body(number, left, &mut ahead)
+            .expect(&rt, "memory");
+        try_written(&rt, hex::encode(rt.alloc(), &body.md5()), md5);
+    }
 }
 
 #[test]

@@ -6,10 +6,10 @@ use Rattle.sim_index.specs.Marks.{least_of, no_mark}
 use Rattle.sim_index.proofs.Trees.{least_read, root_read}
 use Rattle.sim_index.proofs.marks.Marks.least.Goals as goal
 
-pub returns : goal.returns
-returns c =
+pub returns-in-Some : goal.returns-in-Some
+returns-in-Some c =
     let marks : List Mark = c.self.inside.marks.items in
     let nodes : List Node = c.self.inside.nodes.items in
-    let root = root_read marks nodes c.self.invariant c.deref.result.now c.in_ok-get.field-0.now c.deref.ensures.value (c.in_ok-get.ensures.lookup.0, c.in_ok-get.ensures.lookup.1) in
-    least_read marks nodes c.self.invariant c.in_ok-get.field-0.now c.index.result.now root.0 root.1 (get_or_read_under marks c.in_ok-get.field-0.now.place (length marks) c.index.result.now no_mark c.index.ensures root.2 refl)
+    let root = root_read marks nodes c.self.invariant c.deref.result.now c.in-Some.root.now c.deref.ensures.value (c.in-Some.ensures.lookup.0, c.in-Some.ensures.lookup.1) in
+    least_read marks nodes c.self.invariant c.in-Some.root.now c.index.result.now root.0 root.1 (get_or_read_under marks c.in-Some.root.now.place (length marks) c.index.result.now no_mark c.index.ensures root.2 refl)
     ∙ ap least_of c.self.view_is

@@ -5,4 +5,4 @@ use Rattle.sim_site.proofs.Ending.{marked_ends}
 use Rattle.sim_site.proofs.polls.Polls.least_end.Goals as goal
 
 pub returns : goal.returns
-returns c = c.least.ensures ∙ marked_ends c.self.inside.places c.self.invariant.marked ∙ ap (λ ps. least (map poll_key ps)) c.self.view_is
+returns c = c.least_due.ensures ∙ marked_ends c.self.inside.places c.self.invariant.marked ∙ ap (λ ps. least (map poll_key ps)) c.self.view_is

@@ -1,5 +1,4 @@
-use Rattle.std.proofs.Common.{ap, ◌∙◌, ◌≡◌}
-use Rattle.std.specs.Fmt.{decimal}
+use Rattle.std.proofs.Common.{ap, ◌∙◌}
 use Rattle.sqs_message.specs.Bodies.{contains, filled}
 use Rattle.sqs_message.proofs.Filled.{numbered}
 use Rattle.sqs_message.proofs.body.Body.contains.Goals as goal

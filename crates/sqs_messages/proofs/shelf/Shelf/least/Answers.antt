@@ -6,6 +6,6 @@ use Rattle.sqs_messages.proofs.shelf.Shelf.least.Goals as goal
 
 pub returns : goal.returns
 returns c =
-    c.least.ensures
+    c.least_due.ensures
     ∙ least_shelved c.self.inside.slots.values c.self.inside.slots.marks c.self.invariant.places.named
     ∙ ap (λ (h : Holding). least_of (map (λ s. s.mark) h.items)) c.self.view_is
