@@ -3,6 +3,7 @@ from collections import Counter
 from collections.abc import Container, Iterable, Iterator, Sequence
 from typing import TYPE_CHECKING, NamedTuple, Optional
 
+from doors import Doors, before, ways
 from log import COMES, LEAVES, line_of
 
 if TYPE_CHECKING:
@@ -323,6 +324,20 @@ def ages_apart(rows: Sequence[Fields], queues: Container[str], stretch: Stretch,
         yield from bounds(name, gone, still_there, stretch, length)
 
 
+def from_door_to_door(scenario: "Scenario", rows: Sequence[Fields], stretch: Stretch, length: int) -> Iterator[list[object]]:
+    """The lines of the ages since the first sends, and of the forwards that leave them open."""
+    doors, all_ways = Doors(rows, stretch), [*ways(scenario)]
+    for queue in scenario.queues:
+        reach = before(queue.name, all_ways)
+        number = doors.open_at(queue.name, reach)
+        for name, value in ages("door_age", doors.ages(queue.name), stretch.first, length):
+            yield ["figure", queue.name, name, "" if value is None or number else value]
+        yield ["figure", queue.name, "door_age_open", number]
+        yield ["figure", queue.name, "door_age_may_come", doors.may_come(queue.name, reach)]
+    for name in scenario.names()[len(scenario.queues):]:
+        yield ["figure", name, "forwards_in_doubt", int(doors.is_in_doubt(name))]
+
+
 def figures_text(scenario: "Scenario", made: Iterable["Row"], first: int, end: int, most: int = BACKLOG,
                  length: int = WINDOW) -> str:
     """The figures of all agents, over the part of a stretch that lies in the run."""
@@ -341,4 +356,5 @@ def figures_text(scenario: "Scenario", made: Iterable["Row"], first: int, end: i
         else:
             figures += services(own, stretch)
         lines += [["figure", name, figure, "" if value is None else value] for figure, value in figures]
+    lines += from_door_to_door(scenario, rows, stretch, length)
     return "".join(map(line_of, lines))

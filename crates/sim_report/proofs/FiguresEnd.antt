@@ -10,8 +10,10 @@ use Rattle.sqs_formats.specs.Rows.{line, lines}
 use Rattle.sim_report.specs.declared.asked.QueueAsked.{QueueAsked}
 use Rattle.sim_report.specs.declared.asked.Wanted.{Wanted}
 use Rattle.sim_report.specs.declared.stretch.Stretch.{Stretch}
-use Rattle.sim_report.specs.Figures.{Figure, FiguresAsked, actor_figures, apart, backlog_gone, backlog_since, figure_fields, figures_header, figures_of_actor, figures_of_queue, figures_records, figures_text, handled, in_flight, is_full, is_serving, named_ages, named_counts, named_left, named_often, named_requests, named_tries, queue_bounds, queue_figures, received, rows_by, rows_of_moved, rows_of_new, rows_until, rows_within, tries, tries_of}
-use Rattle.sim_report.specs.Figured.{ActorState, QueueState, actor_numbers, actor_records, actor_state, aged_of, ages_named, bounds_by, bounds_named, figured, figured_before, fresh_actor, fresh_queue, left_by, peaks_by, queue_ages, queue_numbers, queue_records, queue_state}
+use Rattle.sim_report.specs.Figures.{Figure, FiguresAsked, actor_figures, ages_named, apart, backlog_gone, backlog_since, figure_fields, handled, in_flight, is_full, is_serving, named_ages, named_counts, named_left, named_often, named_requests, named_tries, queue_bounds, queue_figures, received, rows_by, rows_of_moved, rows_of_new, rows_until, rows_within, tries, tries_of}
+use Rattle.sim_report.specs.Written.{figures_header, figures_of_actor, figures_of_doors, figures_of_queue, figures_records, figures_text}
+use Rattle.sim_report.specs.Doors.{doors, doors_records, no_doors}
+use Rattle.sim_report.specs.Figured.{ActorState, QueueState, actor_name, actor_numbers, actor_records, actor_state, aged_of, bounds_by, bounds_named, door_records, figured, figured_before, fresh_actor, fresh_queue, left_by, peaks_by, queue_ages, queue_name, queue_numbers, queue_records, queue_state}
 use Rattle.sim_report.proofs.Ascending.{sum_by-ascending}
 use Rattle.sim_report.proofs.Groups.{rank-ascending}
 use Rattle.sim_report.proofs.Figuring.{lasting-end}
@@ -107,10 +109,22 @@ actors-from m n s (name ∷ names) rows =
     ap (λ (rs : List (List (List ℕ))). rs ++ flat_map (actor_records s) (map (λ a. actor_state n s a.1 (rows_by a.0 rows)) (enumerate_from (m + 1) names))) here
     ∙ ap (λ (rs : List (List (List ℕ))). map (figure_fields name) (actor_figures n s (rows_by m rows)) ++ rs) rest
 
+-- the names of the queues and of the actors
+queue-names : (m n : ℕ) (w : Wanted) (queues : List QueueAsked) (rows : List Row)
+    → map queue_name (map (λ q. queue_state n w q.1 (rows_of q.0 rows)) (enumerate_from m queues)) ≡ map (λ (q : QueueAsked). q.name) queues
+queue-names m n w [] rows = refl
+queue-names m n w (asked ∷ queues) rows = ap (λ (names : List (List ℕ)). asked.name ∷ names) (queue-names (m + 1) n w queues rows)
+
+actor-names : (m n : ℕ) (s : Stretch) (names : List (List ℕ)) (rows : List Row)
+    → map actor_name (map (λ a. actor_state n s a.1 (rows_by a.0 rows)) (enumerate_from m names)) ≡ names
+actor-names m n s [] rows = refl
+actor-names m n s (name ∷ names) rows = ap (λ (rest : List (List ℕ)). name ∷ rest) (actor-names (m + 1) n s names rows)
+
 -- the text of the running figures is that of the figures
 text-before : (asked : FiguresAsked) (rows : List Row)
     → line figures_header
-    ++ (lines (flat_map (queue_records asked.wanted) (figured_before asked rows).of_queues) ++ lines (flat_map (actor_records asked.wanted.stretch) (figured_before asked rows).of_actors))
+    ++ (lines (flat_map (queue_records asked.wanted) (figured_before asked rows).of_queues)
+    ++ (lines (flat_map (actor_records asked.wanted.stretch) (figured_before asked rows).of_actors) ++ lines (door_records (figured_before asked rows))))
     ≡ lines (figures_records asked rows)
 unfolding figured_before
 text-before asked rows =
@@ -120,14 +134,21 @@ text-before asked rows =
     let of_actors = actors-from n n w.stretch asked.actors rows in
     let first = flat_map (figures_of_queue n w rows) (enumerate_from 0 asked.queues) in
     let second = flat_map (figures_of_actor n w.stretch rows) (enumerate_from n asked.actors) in
+    let third = figures_of_doors asked rows in
+    let doors_are : door_records (figured_before asked rows) ≡ third =
+    ap (λ (names : List (List ℕ)). doors_records w names (map actor_name (figured_before asked rows).of_actors) (doors asked rows)) (queue-names 0 n w asked.queues rows)
+    ∙ ap (λ (names : List (List ℕ)). doors_records w (map (λ (q : QueueAsked). q.name) asked.queues) names (doors asked rows)) (actor-names n n w.stretch asked.actors rows) in
     ap (λ (text : List ℕ). line figures_header ++ text)
-    (ap (λ (rs : List (List (List ℕ))). lines rs ++ lines (flat_map (actor_records w.stretch) (figured_before asked rows).of_actors)) of_queues
-    ∙ ap (λ (rs : List (List (List ℕ))). lines first ++ lines rs) of_actors
-    ∙ sym (flat_map-append line first second))
+    (ap (λ (rs : List (List (List ℕ))). lines rs ++ (lines (flat_map (actor_records w.stretch) (figured_before asked rows).of_actors) ++ lines (door_records (figured_before asked rows)))) of_queues
+    ∙ ap (λ (rs : List (List (List ℕ))). lines first ++ (lines rs ++ lines (door_records (figured_before asked rows)))) of_actors
+    ∙ ap (λ (rs : List (List (List ℕ))). lines first ++ (lines second ++ lines rs)) doors_are
+    ∙ ap (λ (text : List ℕ). lines first ++ text) (sym (flat_map-append line second third))
+    ∙ sym (flat_map-append line first (second ++ third)))
 
 pub text-is : (asked : FiguresAsked) (rows : List Row)
     → line figures_header
-    ++ (lines (flat_map (queue_records asked.wanted) (figured asked rows).of_queues) ++ lines (flat_map (actor_records asked.wanted.stretch) (figured asked rows).of_actors))
+    ++ (lines (flat_map (queue_records asked.wanted) (figured asked rows).of_queues)
+    ++ (lines (flat_map (actor_records asked.wanted.stretch) (figured asked rows).of_actors) ++ lines (door_records (figured asked rows))))
     ≡ figures_text asked rows
 unfolding figured
 text-is asked rows = text-before asked (rows_until asked.wanted.stretch rows)
@@ -142,7 +163,7 @@ actors-none m n s (name ∷ names) = ap (λ (rest : List ActorState). fresh_acto
 
 -- the figures of no rows
 pub figured-none : (asked : FiguresAsked)
-    → record { wanted = asked.wanted; of_queues = map (fresh_queue asked.wanted.stretch) asked.queues; of_actors = map fresh_actor asked.actors } ≡ figured asked []
+    → record { wanted = asked.wanted; of_queues = map (fresh_queue asked.wanted.stretch) asked.queues; of_actors = map fresh_actor asked.actors; doors = no_doors asked } ≡ figured asked []
 unfolding figured figured_before
 figured-none asked =
     let n = length asked.queues in

@@ -16,6 +16,7 @@ use Rattle.sim_report.specs.declared.level.Level.{Level}
 use Rattle.sim_report.specs.declared.peak.Peak.{Peak}
 use Rattle.sim_report.specs.declared.polls.Given.{Given}
 use Rattle.sim_report.specs.declared.stretch.Stretch.{Stretch}
+use Rattle.sim_report.specs.Doors.{DoorsState, doors_with, no_doors}
 use Rattle.sim_report.specs.Facts.{fact_of, place_in}
 use Rattle.sim_report.specs.Figures.{FiguresAsked, Often, age_before, begins_backlog, begins_batch, begins_receive, comes_in, count_names, count_of_row, counts_of, ends_backlog, flight_of, flying, flying_with, given_by, gives, handled, handles, held_by, higher, hold_of, in_flight, is_backlog, is_full, is_moved, is_serving, is_within, last_moment, levels_from, message_of, moved_here, moved_with, never, no_windows, number_of, often, oldest_before, once_more, overlap, own_receipt, peak_of, rows_before, rows_by, rows_of_new, rows_until, rows_where, rows_within, there, there_by, there_with, time_from, time_while, tries, tries_of, tries_when, unused, use_of, waiting_with, window_of, windows, windows_by, windows_with}
 use Rattle.sim_report.specs.Figured.{actor_state, actor_with, aged_if, aged_of, backlogs_of, backlogs_with, begins_by, depth_at, figured, figured_before, figures_after, figures_counting, figures_with, handled_of, handled_with, has_begun, last_at, lasting_of, lasting_until, lasting_with, level_of, level_with, more_if, one_in, peak_with, polls_of, polls_with, queue_changing, queue_counting, queue_judging, queue_peaking, queue_state, queue_timing, queue_with, time_to_last, tries_if, tries_with}
@@ -441,7 +442,8 @@ counting-push asked rows row =
     let own = grouped-at (λ (r : Row). r.queue) (λ (q : QueueAsked) (rs : List Row). queue_state n w q rs) (queue_with (count_of_row n row) w (fact_of row)) row.queue 0 asked.queues rows row
     (λ q rs. queue-push n w q rs row (is_within w.stretch row) refl) (omega arith) in
     let others = actors-push n asked.actors w.stretch rows row (nat_le n row.agent) refl in
-    rw (many, own, others) refl
+    let opened = fold_push (λ (d : DoorsState) (r : Row). doors_with w (fact_of r) d) (no_doors asked) rows row in
+    rw (many, own, others, opened) refl
 
 -- the figures are what is wanted
 pub wanted-is : (asked : FiguresAsked) (rows : List Row) → (figured asked rows).wanted ≡ asked.wanted

@@ -7,7 +7,9 @@ pub mod Groups
 pub mod Kept
 mod Marked
 mod Named
+mod Numbering
 mod Placed
+mod Reaching
 pub mod Reporting
 pub mod Tallies
 pub mod Unused

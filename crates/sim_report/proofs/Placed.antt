@@ -1,5 +1,5 @@
 -- Numbers with values by slots: what a slot more or less does to them.
-use Rattle.std.proofs.Common.{Less, Equal, Greater, Ordering, ◌≡◌, ◌==◌, ℕ, zero, suc, ◌+◌, ◌<◌, ◌≤◌, Bool, true, false, Option, Some, None, cond, get_or, nat_lt, option_map, slice_get, take, All, List, [], ◌∷◌, ◌++◌, length, set, replicate, refl, sym, ap, ◌∙◌, arith}
+use Rattle.std.proofs.Common.{Less, Equal, Greater, Ordering, ◌≡◌, ◌==◌, ℕ, zero, suc, ◌+◌, ◌<◌, ◌≤◌, Bool, true, false, Option, Some, None, cond, get_or, nat_lt, take, All, List, [], ◌∷◌, ◌++◌, length, set, replicate, refl, sym, ap, ◌∙◌, arith}
 use Rattle.std.specs.BTreeMap.{insert_entry, is_at}
 use Rattle.std.specs.Map.{keys_of, remove_entry}
 use Rattle.std.specs.Ordering.{match_ordering, nat_cmp}
@@ -7,7 +7,7 @@ use Rattle.std.proofs.lemmas.Bool.Decides.{nat_tests}
 use Rattle.std.proofs.lemmas.List.{append-nil, append_assoc}
 use Rattle.std.proofs.lemmas.Map.Views.{All-keys-insert_entry}
 use Rattle.std.proofs.lemmas.List.Elements.{All-head, All-tail, All-weaker}
-use Rattle.sim_report.specs.Numbered.{BeginsFilled, placed, tabled}
+use Rattle.sim_report.specs.Numbered.{placed, tabled}
 
 -- slots without values, behind the others
 placed-none : (more first : ℕ) → placed first (replicate more None) ≡ []

@@ -1,12 +1,12 @@
 -- The running figures of queues and actors.
-use Rattle.std.specs.Prelude.{ℕ, ◌+◌, ◌-◌, ◌==◌, ◌&&◌, nat_le, nat_lt, not, Bool, true, false, codes, cond, max, List, [], ◌∷◌, ◌++◌, filter_map, fold, length, map, option_map, sum, zip, Option, Some, None}
+use Rattle.std.specs.Prelude.{ℕ, ◌+◌, ◌-◌, ◌==◌, ◌&&◌, nat_le, nat_lt, not, Bool, true, false, codes, cond, max, List, [], ◌∷◌, ◌++◌, filter_map, fold, length, map, zip, Option, Some, None}
 use Rattle.std.specs.BTreeMap.{is_at}
 use Rattle.std.specs.BTreeSet.{insert_key}
 use Rattle.std.specs.List.{enumerate_from, list_any}
 use Rattle.std.specs.Ordering.{nat_cmp}
 use Rattle.std.specs.Set.{remove_key}
 use Rattle.sqs_message.specs.declared.row.Row.{Row}
-use Rattle.sqs_formats.specs.Report.{ages, ascending, count, depth, is_column, numbers, put, rows_of}
+use Rattle.sqs_formats.specs.Report.{ages, ascending, count, depth, is_column, numbers, rows_of}
 use Rattle.sim_report.specs.declared.fact.Fact.{Fact}
 use Rattle.sim_report.specs.declared.aged.Aged.{Aged}
 use Rattle.sim_report.specs.declared.asked.QueueAsked.{QueueAsked}
@@ -21,9 +21,9 @@ use Rattle.sim_report.specs.declared.fact.Use.TheVariants.{Calls, Deletes, Gives
 use Rattle.sim_report.specs.declared.peak.Peak.{Peak}
 use Rattle.sim_report.specs.declared.polls.Polls.{Polls}
 use Rattle.sim_report.specs.declared.tries.Tries.{Tries}
-use Rattle.sim_report.specs.declared.windows.Worst.{Worst}
+use Rattle.sim_report.specs.Doors.{DoorsState, doors, doors_records, doors_with}
 use Rattle.sim_report.specs.Facts.{fact_of, place_in}
-use Rattle.sim_report.specs.Figures.{Figure, FiguresAsked, Often, age_by, age_names, age_of_oldest, ages_at, apart, batches, begins_backlog, bound_names, bound_numbers, comes_in, count_names, counts_of, ends_backlog, figure_fields, flying, flying_with, given_by, gives, handled, held_after, held_with, higher, in_flight, is_asked, is_first, is_full, is_given, is_serving, last_given, last_moment, message_of, moved_by, moved_here, named_counts, named_peak, named_often, named_requests, named_services, named_tries, never, no_windows, oldest_before, once_more, overlap, peak_of, rank_in, receipt_cmp, received, receives_asked, rows_by, rows_of_moved, rows_of_new, rows_until, rows_where, rows_within, start_of, there, there_with, tries, tries_of, tries_when, unused, unused_with, waiting, waiting_with, window_of, windows, windows_with, worst_of}
+use Rattle.sim_report.specs.Figures.{Figure, FiguresAsked, Often, age_by, age_of_oldest, aged_with, ages_named, ages_at, apart, batches, begins_backlog, bound_names, bound_numbers, comes_in, count_names, counts_of, ends_backlog, figure_fields, flying, flying_with, given_by, gives, handled, held_after, held_with, higher, in_flight, is_asked, is_first, is_full, is_given, is_serving, last_given, last_moment, message_of, moved_by, moved_here, named_counts, named_peak, named_often, named_requests, named_services, named_tries, never, no_aged, oldest_before, once_more, overlap, peak_of, receipt_cmp, received, receives_asked, rows_by, rows_of_moved, rows_of_new, rows_until, rows_where, rows_within, there, there_with, tries, tries_of, tries_when, unused, unused_with, waiting, waiting_with, window_of, windows}
 use Rattle.sim_report.specs.Running.{changed}
 use Rattle.sim_report.specs.Tally.{counted}
 
@@ -201,13 +201,7 @@ handled_with within f h =
 abbrev pub aged_of : Wanted → List Row → Aged
 aged_of w rows = record { ages = ascending (ages rows); windows = windows w rows }
 
-abbrev pub no_aged : Aged
-no_aged = record { ages = []; windows = no_windows }
-
 -- with one more age in the window with this number, if there is one
-abbrev pub aged_with : ℕ → ℕ → Aged → Aged
-aged_with n age a = record { ages = put age a.ages; windows = windows_with n (Some age) a.windows }
-
 abbrev pub aged_if : ℕ → Option ℕ → Aged → Aged
 aged_if n None a = a
 aged_if n (Some age) a = aged_with n age a
@@ -382,17 +376,6 @@ abbrev pub queue_with : Option ℕ → Wanted → Fact → QueueState → QueueS
 queue_with place w f q =
     queue_judging w f.at (is_backlog_by w.backlog q) (queue_peaking w.stretch f.at (queue_counted place w f q))
 
--- the numbers of the figures of ages in ascending order
-abbrev pub age_numbers : Wanted → Aged → List (Option ℕ)
-age_numbers w a =
-    let worst = worst_of a.windows in
-    Some (sum a.ages) ∷ rank_in 50 a.ages ∷ rank_in 95 a.ages ∷ rank_in 99 a.ages ∷ rank_in 100 a.ages
-    ∷ option_map (λ (x : Worst). x.age) worst ∷ option_map (λ (x : Worst). start_of w x.number) worst ∷ []
-
--- these figures
-abbrev pub ages_named : List ℕ → Wanted → Aged → List Figure
-ages_named name w a = zip (age_names name) (age_numbers w a)
-
 -- what is left of a queue's messages, how long as many were in flight as may be, and its last backlog
 unfoldable pub left_by : Wanted → QueueState → List Figure
 left_by w q =
@@ -489,11 +472,12 @@ actor_numbers s a =
     ++ (named_requests a.polls.asked a.counts
     ++ named_services s a.counts a.polls.batches (lasting_until s (nat_lt 0 a.held.number) a.busy))
 
--- the running figures of all queues and of all actors
+-- the running figures of all queues and of all actors, and what ages from door to door need
 pub record FiguresState : Type 0 where
   pub wanted : Wanted
   pub of_queues : List QueueState
   pub of_actors : List ActorState
+  pub doors : DoorsState
 
 -- the running figures of actors with one more fact, which counts as this, at its own actor alone; so many queues are the
 -- first agents
@@ -507,6 +491,7 @@ figures_counting place f t =
     record t {
       of_queues = changed (queue_with place t.wanted f) f.count.queue t.of_queues;
       of_actors = actors_with (length t.of_queues) place t.wanted.stretch f t.of_actors;
+      doors = doors_with t.wanted f t.doors;
     }
 
 -- with one more fact, if it is before the end of the stretch
@@ -526,6 +511,7 @@ figured_before asked rows =
       wanted = asked.wanted;
       of_queues = map (λ q. queue_state queues asked.wanted q.1 (rows_of q.0 rows)) (enumerate_from 0 asked.queues);
       of_actors = map (λ a. actor_state queues asked.wanted.stretch a.1 (rows_by a.0 rows)) (enumerate_from queues asked.actors);
+      doors = doors asked rows;
     }
 
 -- after these rows
@@ -539,3 +525,15 @@ queue_records w q = map (figure_fields q.asked.name) (queue_numbers w q)
 -- the records of an actor's figures
 abbrev pub actor_records : Stretch → ActorState → List (List (List ℕ))
 actor_records s a = map (figure_fields a.name) (actor_numbers s a)
+
+-- the names of queues and actors
+abbrev pub queue_name : QueueState → List ℕ
+queue_name q = q.asked.name
+
+abbrev pub actor_name : ActorState → List ℕ
+actor_name a = a.name
+
+-- the records of the figures of doors
+abbrev pub door_records : FiguresState → List (List (List ℕ))
+door_records t =
+    doors_records t.wanted (map queue_name t.of_queues) (map actor_name t.of_actors) t.doors

@@ -5,7 +5,7 @@ use Rattle.std.specs.BTreeSet.{insert_key}
 use Rattle.std.specs.Map.{lookup, remove_entry}
 use Rattle.std.specs.Set.{remove_key}
 use Rattle.std.specs.Fmt.{decimal}
-use Rattle.std.specs.List.{enumerate_from, list_any}
+use Rattle.std.specs.List.{list_any}
 use Rattle.std.specs.Ordering.{nat_cmp, on, then_cmp}
 use Rattle.std.specs.declared.cmp.Ordering.{Ordering}
 use Rattle.sqs_message.specs.Ids.{read_receipt}
@@ -20,10 +20,12 @@ use Rattle.sqs_message.specs.declared.row.RowReceipt.{RowReceipt}
 use Rattle.sqs_message.specs.declared.row.RowReceipt.TheVariants as receipts
 use Rattle.sqs_message.specs.declared.row.Detail.{Detail}
 use Rattle.sqs_message.specs.declared.row.Detail.TheVariants as details
-use Rattle.sqs_formats.specs.Report.{age_when, ages, ascending, column, counts_in, depth, greatest, is_column, numbers, put, rank, rows_of}
-use Rattle.sqs_formats.specs.Rows.{lines, text_if}
+use Rattle.sqs_formats.specs.Report.{age_when, ages, ascending, column, counts_in, depth, greatest, is_column, numbers, put, rank}
+use Rattle.sqs_formats.specs.Rows.{text_if}
+use Rattle.sim_report.specs.declared.aged.Aged.{Aged}
 use Rattle.sim_report.specs.declared.stretch.Stretch.{Stretch}
 use Rattle.sim_report.specs.declared.asked.QueueAsked.{QueueAsked}
+use Rattle.sim_report.specs.declared.asked.Way.{Way}
 use Rattle.sim_report.specs.declared.asked.Wanted.{Wanted}
 use Rattle.sim_report.specs.declared.held.Held.{Held}
 use Rattle.sim_report.specs.declared.polls.Given.{Given}
@@ -38,10 +40,12 @@ use Rattle.sim_report.specs.declared.fact.Use.TheVariants.{Calls, Deletes, Fails
 use Rattle.sim_report.specs.declared.fact.Hold.{Hold}
 use Rattle.sim_report.specs.declared.fact.Hold.TheVariants.{Asks, Keeps, Settles, Takes, Waits}
 
--- what figures are asked for: the queues, which are the first agents, the names of the next agents, and what is wanted
+-- what figures are asked for: the queues, which are the first agents, the names of the next agents, the ways from queue
+-- to queue, and what is wanted
 pub record FiguresAsked : Type 0 where
   pub queues : List QueueAsked
   pub actors : List (List ℕ)
+  pub ways : List Way
   pub wanted : Wanted
 
 -- messages to which something happened: their numbers in ascending order; of those to which it did more than once, how
@@ -596,6 +600,24 @@ age_names name =
     (codes "_sum_ms" ∷ codes "_p50_ms" ∷ codes "_p95_ms" ∷ codes "_p99_ms" ∷ codes "_greatest_ms"
     ∷ codes "_window_p95_ms" ∷ codes "_window_p95_at_ms" ∷ [])
 
+-- no ages, and these with one more in the window with this number; ages are in ascending order
+abbrev pub no_aged : Aged
+no_aged = record { ages = []; windows = no_windows }
+
+abbrev pub aged_with : ℕ → ℕ → Aged → Aged
+aged_with n age a = record { ages = put age a.ages; windows = windows_with n (Some age) a.windows }
+
+-- the numbers of the figures of ages in ascending order
+abbrev pub age_numbers : Wanted → Aged → List (Option ℕ)
+age_numbers w a =
+    let worst = worst_of a.windows in
+    Some (sum a.ages) ∷ rank_in 50 a.ages ∷ rank_in 95 a.ages ∷ rank_in 99 a.ages ∷ rank_in 100 a.ages
+    ∷ option_map (λ (x : Worst). x.age) worst ∷ option_map (λ (x : Worst). start_of w x.number) worst ∷ []
+
+-- these figures
+abbrev pub ages_named : List ℕ → Wanted → Aged → List Figure
+ages_named name w a = zip (age_names name) (age_numbers w a)
+
 -- the ages in these rows by these names
 abbrev pub named_ages : List ℕ → Wanted → List Row → List Figure
 named_ages name w rows =
@@ -676,26 +698,3 @@ actor_figures queues s rows =
 -- the fields of a figure of a queue or actor with this name
 abbrev pub figure_fields : List ℕ → Figure → List (List ℕ)
 figure_fields of f = codes "figure" ∷ of ∷ f.0 ∷ text_if decimal f.1 ∷ []
-
--- the header of figures
-abbrev pub figures_header : List (List ℕ)
-figures_header = codes "figure" ∷ codes "of" ∷ codes "name" ∷ codes "value" ∷ []
-
--- the records of a queue's figures, and of an actor's, by its number
-abbrev pub figures_of_queue : ℕ → Wanted → List Row → ℕ × QueueAsked → List (List (List ℕ))
-figures_of_queue queues w rows q = map (figure_fields q.1.name) (queue_figures queues w q.1 (rows_of q.0 rows))
-
-abbrev pub figures_of_actor : ℕ → Stretch → List Row → ℕ × List ℕ → List (List (List ℕ))
-figures_of_actor queues s rows a = map (figure_fields a.1) (actor_figures queues s (rows_by a.0 rows))
-
--- the records of the figures that are asked for, over rows before the end of the stretch
-abbrev pub figures_records : FiguresAsked → List Row → List (List (List ℕ))
-figures_records asked rows =
-    let queues = length asked.queues in
-    figures_header
-    ∷ (flat_map (figures_of_queue queues asked.wanted rows) (enumerate_from 0 asked.queues)
-    ++ flat_map (figures_of_actor queues asked.wanted.stretch rows) (enumerate_from queues asked.actors))
-
--- the figures of a run
-abbrev pub figures_text : FiguresAsked → List Row → List ℕ
-figures_text asked rows = lines (figures_records asked (rows_until asked.wanted.stretch rows))

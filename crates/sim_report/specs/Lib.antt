@@ -6,5 +6,8 @@ pub mod Compared
 pub mod Figures
 pub mod Facts
 pub mod Numbered
+pub mod Forwards
+pub mod Doors
+pub mod Written
 pub mod Figured
 pub mod Reports

@@ -9,7 +9,8 @@ use Rattle.sim_report.specs.declared.fact.Fact.{Fact}
 use Rattle.sim_report.specs.declared.queue.QueueCounts.{QueueCounts}
 use Rattle.sim_report.specs.Facts.{fact_of}
 use Rattle.sim_report.specs.Figured.{FiguresState, figured, figures_with}
-use Rattle.sim_report.specs.Figures.{FiguresAsked, figures_text}
+use Rattle.sim_report.specs.Figures.{FiguresAsked}
+use Rattle.sim_report.specs.Written.{figures_text}
 use Rattle.sim_report.specs.Running.{count_added, queues_running}
 
 -- what a report is to have: the names of the queues, and figures if they are wanted

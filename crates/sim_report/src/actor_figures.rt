@@ -72,6 +72,13 @@ impl ActorFigures {
         Ok(())
     }
 
+    /// Its name.
+    pub(crate) fn name(&self) -> &[u8]
+        ensures { result.now ≡ self.now.name }
+    {
+        self.name.as_bytes()
+    }
+
     /// Adds the lines of its figures.
     ///
     /// # Errors

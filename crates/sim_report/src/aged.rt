@@ -1,7 +1,8 @@
 //! Ages of deletions, of all and by windows of time.
 ghost use Rattle.std.specs.Prelude.{◌≡◌, map, zip, IfOk, OnOk};
 ghost use Rattle.std.specs.List.Sorted.{IsNonDecreasing};
-ghost use Rattle.sim_report.specs.Figured.{age_bounds, age_numbers, aged_with, no_aged};
+ghost use Rattle.sim_report.specs.Figured.{age_bounds};
+ghost use Rattle.sim_report.specs.Figures.{age_numbers, aged_with, no_aged};
 
 use crate::age_counts::AgeCounts;
 use crate::ages::Ages;

@@ -36,6 +36,14 @@ impl Wanted {
     }
 }
 
+/// A way from queue to queue, by their numbers: to a dead-letter queue, of a move task or of a
+/// forward.
+#[derive(Clone, Copy, Debug, PartialEq, Eq)]
+pub struct Way {
+    pub from: u32,
+    pub to: u32,
+}
+
 /// A queue of which figures are asked for.
 #[derive(Drop)]
 pub struct QueueAsked {

@@ -5,6 +5,7 @@ ghost use Rattle.sim_report.specs.Figures.{counted_as, flight_of, hold_of, is_ow
 ghost use Rattle.sqs_formats.specs.Report.{is_column};
 
 use crate::column::{ARRIVALS, DELETES, RowCount, SENDS, age_of, column_of};
+use crate::course::Course;
 use sqs_message::{Detail, MessageId, Receipt, Row, RowAnswer, RowKind, RowReceipt};
 
 // The place of arrivals among the counts, before it is known how they came.
@@ -85,6 +86,8 @@ pub struct Fact {
     /// Its receipt, if that is one of its queue: the number of the message there, and how often it
     /// had been received.
     pub receipt: Option<(u64, u64)>,
+    /// What it says of the course of its message.
+    pub course: Course,
 }
 
 // Whether a message that arrived is of an origin of its own.
@@ -286,6 +289,7 @@ impl Fact {
         ensures { result ≡ fact_of row.now }
     {
         let said = said_by(row.kind, &row.answer);
+        let own = is_own(row.message, row.detail);
         Fact {
             at: row.key.at,
             agent: row.agent,
@@ -295,12 +299,13 @@ impl Fact {
                 column: said.column,
             },
             place: said.place,
-            own: is_own(row.message, row.detail),
+            own,
             hold: said.hold,
             flight: said.flight,
             number: number_of(row.message),
             handling: said.handling,
             receipt: of_queue(row.queue, receipt_of(&row.receipt)),
+            course: Course::of(row.kind, &row.answer, own, row.detail),
         }
     }
 

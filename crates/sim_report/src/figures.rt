@@ -2,13 +2,16 @@
 ghost use Rattle.std.specs.Prelude.{◌≡◌, ◌∷◌, ◌++◌, [], flat_map, length, map, List, IfOk, OnOk};
 ghost use Rattle.sqs_message.specs.declared.row.Row.{Row as TheRow};
 ghost use Rattle.sim_report.specs.Facts.{fact_of};
-ghost use Rattle.sim_report.specs.Figured.{actor_records, actors_with, figured, figures_after, figures_with, fresh_actor, fresh_queue, queue_records, queue_with};
-ghost use Rattle.sim_report.specs.Figures.{FiguresAsked, figures_text};
+ghost use Rattle.sim_report.specs.Doors.{actor_doors, queue_doors};
+ghost use Rattle.sim_report.specs.Figured.{actor_name, actor_records, actors_with, door_records, figured, figures_after, figures_with, fresh_actor, fresh_queue, queue_name, queue_records, queue_with};
+ghost use Rattle.sim_report.specs.Figures.{FiguresAsked};
+ghost use Rattle.sim_report.specs.Written.{figures_text};
 ghost use Rattle.sqs_formats.specs.Rows.{lines};
 ghost use Rattle.sim_report.specs.Running.{changed};
 
 use crate::actor_figures::ActorFigures;
-use crate::asked::{QueueAsked, Wanted};
+use crate::asked::{QueueAsked, Wanted, Way};
+use crate::doors::Doors;
 use crate::fact::Fact;
 use crate::queue_figures::QueueFigures;
 use crate::stretch::Stretch;
@@ -23,6 +26,7 @@ pub struct Figures {
     wanted: Wanted,
     of_queues: Vec<QueueFigures>,
     of_actors: Vec<ActorFigures>,
+    doors: Doors,
 }
 
 impl Model for Figures {
@@ -30,7 +34,7 @@ impl Model for Figures {
 
     ghost Value = { FiguresState };
 
-    ghost view = { λ f. record { wanted = f.wanted; of_queues = f.of_queues.items; of_actors = f.of_actors.items } };
+    ghost view = { λ f. record { wanted = f.wanted; of_queues = f.of_queues.items; of_actors = f.of_actors.items; doors = f.doors } };
 }
 
 // Takes in what a row says, which counts in this place, at its queue, if that is one of these.
@@ -130,9 +134,51 @@ fn add_actors(
     Ok(())
 }
 
+// Adds the lines of the figures of doors, of queues.
+fn add_queue_doors(
+    alloc: Global,
+    text: &mut Lines,
+    wanted: Wanted,
+    doors: &Doors,
+    queues: &[QueueFigures],
+) -> Result<(), AllocError>
+    ensures { OnOk result (text.new
+        ≡ text.old ++ lines (queue_doors wanted (map queue_name queues.now) doors.now)) }
+{
+    for queue in 0..queues.len() {
+        doors.write_queue(alloc, wanted, queue, queues[queue].name(), text)?;
+    }
+    Ok(())
+}
+
+// Adds the lines of the figures of doors, of actors.
+fn add_actor_doors(
+    text: &mut Lines,
+    doors: &Doors,
+    actors: &[ActorFigures],
+) -> Result<(), AllocError>
+    ensures { OnOk result (text.new
+        ≡ text.old ++ lines (actor_doors (map actor_name actors.now) doors.now)) }
+{
+    for actor in 0..actors.len() {
+        doors.write_actor(actor, actors[actor].name(), text)?;
+    }
+    Ok(())
+}
+
 impl Figures {
+    // Adds the lines of the figures of doors.
+    fn add_doors(&self, alloc: Global, text: &mut Lines) -> Result<(), AllocError>
+        ensures { OnOk result (text.new ≡ text.old ++ lines (door_records self.now)) }
+    {
+        let queues = self.of_queues.as_slice();
+        add_queue_doors(alloc, text, self.wanted, &self.doors, queues)?;
+        add_actor_doors(text, &self.doors, self.of_actors.as_slice())
+    }
+
     /// The figures of no rows of a run, of these queues and of the actors with these names; the
-    /// queues are the first agents, and the actors the next.
+    /// queues are the first agents, and the actors the next. Messages may go these ways from queue
+    /// to queue.
     ///
     /// # Errors
     ///
@@ -142,14 +188,21 @@ impl Figures {
         wanted: Wanted,
         queues: Vec<QueueAsked>,
         actors: Vec<Text>,
+        ways: Vec<Way>,
     ) -> Result<Figures, AllocError>
-        ensures { IfOk result (λ f. f ≡ figured
-            (record { queues = queues.items; actors = actors.items; wanted = wanted }) []) }
+        ensures { IfOk result (λ f. f ≡ figured (record {
+          queues = queues.items;
+          actors = actors.items;
+          ways = ways.items;
+          wanted = wanted;
+        }) []) }
     {
+        let doors = Doors::new(alloc, ways, queues.len(), actors.len())?;
         Ok(Figures {
             wanted,
             of_queues: fresh_queues(alloc, wanted.stretch, queues)?,
             of_actors: fresh_actors(alloc, actors)?,
+            doors,
         })
     }
 
@@ -170,7 +223,8 @@ impl Figures {
         let place = fact.place_in(queues);
         take_at_queue(self.of_queues.as_mut_slice(), place, wanted, fact)?;
         let actors = self.of_actors.as_mut_slice();
-        take_at_actor(actors, queues, place, wanted.stretch, fact)
+        take_at_actor(actors, queues, place, wanted.stretch, fact)?;
+        self.doors.take(wanted, fact)
     }
 
     /// Takes in what rows say, one after another.
@@ -201,6 +255,7 @@ impl Figures {
         add_queues(alloc, &mut text, self.wanted, self.of_queues.as_slice())?;
         let stretch = self.wanted.stretch;
         add_actors(alloc, &mut text, stretch, self.of_actors.as_slice())?;
+        self.add_doors(alloc, &mut text)?;
         text.into_bytes()
     }
 }

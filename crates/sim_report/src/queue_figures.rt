@@ -416,6 +416,13 @@ impl QueueFigures {
         add_figures(text, of, &often)
     }
 
+    /// Its name.
+    pub(crate) fn name(&self) -> &[u8]
+        ensures { result.now ≡ self.now.asked.name }
+    {
+        self.asked.name.as_bytes()
+    }
+
     /// Adds the lines of its figures.
     ///
     /// # Errors

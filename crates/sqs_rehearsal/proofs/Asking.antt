@@ -3,7 +3,7 @@ use Rattle.std.proofs.Common.{◌≡◌, ℕ, suc, zero, ◌+◌, ◌<◌, ◌�
 use Rattle.std.proofs.lemmas.List.{take_all, take_more}
 use Rattle.sim_report.specs.declared.asked.QueueAsked.{QueueAsked}
 use Rattle.sqs_redrive.specs.declared.settings.QueueSettings.{QueueSettings}
-use Rattle.sqs_rehearsal.specs.Endings.{queue_asked}
+use Rattle.sqs_rehearsal.specs.Wanted.{queue_asked}
 
 -- all of them
 abbrev pub all_asked : List (List ℕ) → List QueueSettings → List QueueAsked

@@ -4,7 +4,7 @@ use Rattle.sim_report.specs.Reports.{Asked}
 use Rattle.sim_report.specs.declared.asked.Wanted.{Wanted}
 use Rattle.sqs_formats.specs.Output.{queue_names}
 use Rattle.sqs_model.specs.Scenario.{Scenario}
-use Rattle.sqs_rehearsal.specs.Endings.{figures_of}
+use Rattle.sqs_rehearsal.specs.Wanted.{figures_of}
 
 -- what the report of a scenario is to have
 abbrev pub asked_of : Scenario → Option Wanted → Asked

@@ -16,6 +16,7 @@ pub mod SinkLaws
 pub mod Printed
 pub mod PrintedLaws
 pub mod Endings
+pub mod Wanted
 pub mod Asked
 pub mod Reaching
 pub mod Said

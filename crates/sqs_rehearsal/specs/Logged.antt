@@ -4,9 +4,9 @@ use Rattle.sqs_formats.specs.Rows.{log_text}
 use Rattle.sqs_message.specs.declared.row.Row.{Row}
 use Rattle.sqs_model.specs.Scenario.{Scenario}
 use Rattle.sim_logs.specs.Logs.{AreInTurn, IsReadUp, IsWritten}
-use Rattle.sim_report.specs.Figures.{figures_text}
+use Rattle.sim_report.specs.Written.{figures_text}
 use Rattle.sim_report.specs.declared.asked.Wanted.{Wanted}
-use Rattle.sqs_rehearsal.specs.Endings.{figures_of}
+use Rattle.sqs_rehearsal.specs.Wanted.{figures_of}
 
 -- what was read, from what a reader had to what it has left, is the log of rows in the order of time, by the names of a
 -- scenario, and these are their figures

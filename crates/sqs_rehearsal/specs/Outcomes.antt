@@ -14,7 +14,7 @@ use Rattle.sqs_rehearsal.specs.Asked.{asked_of}
 use Rattle.sqs_rehearsal.specs.declared.outcome.Outcome.{Outcome}
 use Rattle.sqs_rehearsal.specs.Left.{Wrote}
 use Rattle.sqs_rehearsal.specs.Writers.{Writer}
-use Rattle.sqs_rehearsal.specs.Endings.{figures_of}
+use Rattle.sqs_rehearsal.specs.Wanted.{figures_of}
 use Rattle.sim_report.specs.Figured.{figured, FiguresState}
 use Rattle.sqs_formats.specs.Comparison.{comparison}
 

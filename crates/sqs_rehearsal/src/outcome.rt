@@ -3,8 +3,9 @@ ghost use Rattle.std.specs.Prelude.{◌≡◌, ◌≤◌, [], false, length, map
 ghost use Rattle.sim_records.specs.Writes.{WroteSeveral};
 ghost use Rattle.sim_report.specs.Reports.{running};
 ghost use Rattle.sqs_formats.specs.Comparison.{comparison};
+ghost use Rattle.sqs_model.specs.Scenario.{edges};
 ghost use Rattle.sqs_rehearsal.specs.Asked.{asked_of};
-ghost use Rattle.sqs_rehearsal.specs.Endings.{queue_asked};
+ghost use Rattle.sqs_rehearsal.specs.Wanted.{queue_asked, way_of};
 ghost use Rattle.sqs_rehearsal.specs.Outcomes.{HasCounted, IsOutcomeOf, Stops, WroteComparison, no_figures};
 ghost use Rattle.sqs_rehearsal.specs.Writers.{seen};
 
@@ -13,8 +14,8 @@ use crate::finals::finals_of;
 use crate::running::run_alone;
 use sim_clock::Refusal;
 use sim_records::Out;
-use sim_report::{Figures, QueueAsked, Report, Stretch, Wanted};
-use sim_scenario::Scenario;
+use sim_report::{Figures, QueueAsked, Report, Stretch, Wanted, Way};
+use sim_scenario::{Scenario, edges};
 use sim_site::Site;
 use sqs_message::Text;
 use sqs_model::Finals;
@@ -62,6 +63,20 @@ fn queues_asked(
     Ok(queues)
 }
 
+// The ways from queue to queue of a scenario. It fails if memory runs out.
+fn ways_asked(alloc: Global, scenario: &Scenario) -> Result<Vec<Way>, AllocError>
+    ensures { IfOk result (λ ways. ways.items ≡ map way_of (edges scenario.now)) }
+{
+    let edges = edges(alloc, scenario)?;
+    edges
+        .iter()
+        .map(|edge| Way {
+            from: edge.from,
+            to: edge.to,
+        })
+        .collect(alloc)
+}
+
 /// The figures of no rows of a scenario over the part of a stretch that lies in its run. It fails if
 /// memory runs out.
 pub fn fresh_figures(
@@ -84,7 +99,8 @@ pub fn fresh_figures(
     };
     let of_queues = queues_asked(alloc, &scenario.names()[..queues], scenario.queues())?;
     let of_actors = copies(alloc, &scenario.names()[queues..])?;
-    Figures::new(alloc, wanted, of_queues, of_actors)
+    let ways = ways_asked(alloc, scenario)?;
+    Figures::new(alloc, wanted, of_queues, of_actors, ways)
 }
 
 /// The report of no rows of a scenario, with figures over the part of a stretch that lies in its

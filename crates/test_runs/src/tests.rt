@@ -1,5 +1,6 @@
 //! The tests, a file for each crate or part that they test, and what they share.
 mod actor;
+mod doors;
 mod figures;
 mod logs;
 mod partition;

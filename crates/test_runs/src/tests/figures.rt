@@ -4,7 +4,7 @@
 use crate::tests::same::same;
 use sim_clock::{Class, Key, Refusal};
 use sim_records::ToWriter;
-use sim_report::{Fact, Figures, QueueAsked, Report, Stretch, Wanted};
+use sim_report::{Fact, Figures, QueueAsked, Report, Stretch, Wanted, Way};
 use sqs_message::{
     Detail, MessageId, Origin, Receipt, ReceiptHandle, Row, RowAnswer, RowKind, RowReceipt, Text,
 };
@@ -383,6 +383,25 @@ figure,c,services,4
 figure,c,batches,4
 figure,c,busy_ms,50
 figure,c,busy_permille,555
+figure,q,door_age_sum_ms,
+figure,q,door_age_p50_ms,
+figure,q,door_age_p95_ms,
+figure,q,door_age_p99_ms,
+figure,q,door_age_greatest_ms,
+figure,q,door_age_window_p95_ms,
+figure,q,door_age_window_p95_at_ms,
+figure,q,door_age_open,1
+figure,q,door_age_may_come,0
+figure,d,door_age_sum_ms,0
+figure,d,door_age_p50_ms,
+figure,d,door_age_p95_ms,
+figure,d,door_age_p99_ms,
+figure,d,door_age_greatest_ms,
+figure,d,door_age_window_p95_ms,
+figure,d,door_age_window_p95_at_ms,
+figure,d,door_age_open,0
+figure,d,door_age_may_come,1
+figure,c,forwards_in_doubt,0
 ";
 
 pub fn text(rt: &impl Abort, alloc: Global, name: &[u8]) -> Text {
@@ -455,7 +474,8 @@ pub fn fresh(rt: &impl Abort, alloc: Global) -> Figures {
         backlog: 0,
         window: 40,
     };
-    Figures::new(alloc, wanted, queues.expect(rt, "memory"), actors).expect(rt, "memory")
+    let ways = vec![in alloc; Way { from: 0, to: 1 }].expect(rt, "memory");
+    Figures::new(alloc, wanted, queues.expect(rt, "memory"), actors, ways).expect(rt, "memory")
 }
 
 #[test]

@@ -3,7 +3,7 @@ use Rattle.sim_logs.specs.Logs.{IsReadUp, IsWritten}
 use Rattle.sim_report.proofs.Figuring.{figured-append}
 use Rattle.sim_report.specs.Figured.{figured, figures_after}
 use Rattle.sqs_formats.specs.Rows.{log_text}
-use Rattle.sqs_rehearsal.specs.Endings.{figures_of}
+use Rattle.sqs_rehearsal.specs.Wanted.{figures_of}
 use Rattle.sqs_rehearsal.proofs.logged.figures_of_log.Goals as goal
 
 pub returns : goal.returns

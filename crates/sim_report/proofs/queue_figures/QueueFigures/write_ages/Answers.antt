@@ -2,7 +2,8 @@ use Rattle.std.proofs.Common.{◌≡◌, ◌++◌, ◌∙◌, List, ℕ, ap, map
 use Rattle.std.specs.Prelude.{codes}
 use Rattle.std.proofs.lemmas.Result.{on_ok_weaker}
 use Rattle.sqs_formats.specs.Rows.{lines}
-use Rattle.sim_report.specs.Figured.{AgesApart, QueueState, ages_named}
+use Rattle.sim_report.specs.Figured.{AgesApart, QueueState}
+use Rattle.sim_report.specs.Figures.{ages_named}
 use Rattle.sim_report.specs.Figures.{Figure, figure_fields}
 use Rattle.sim_report.proofs.FiguresEnd.{ages-lines}
 use Rattle.sim_report.proofs.queue_figures.QueueFigures.write_ages.Goals as goal
