@@ -17,6 +17,7 @@ from typing import Any
 import release
 from rehearse_tools import explain, scripts, summaries
 from rehearse_tools.console import Fault, read_bytes, read_text, refuse, write_bytes
+from rehearse_tools.fact_tables import rows_of
 from rehearse_tools.keys import ACTORS, ITEMS, VERSIONS, Key, keys_of
 from rehearse_tools.programs import TOP
 from rehearse_tools.scenarios import parsed
@@ -134,8 +135,8 @@ def rules() -> dict[str, dict[str, str]]:
 def printed_by_summary() -> dict[str, Any]:
     """What tools/summary prints: the lines of a queue, each with the name of what writes its number, and which are shares
     of what came in. And the kinds of actors, and the first record of a script."""
-    lines = [{"key": line.key, "label": line.label, "always": line.always, "written": line.written.__name__}
-             for line in summaries.LINES]
+    lines = [{"key": row["key"], "label": row["label"], "always": bool(row["always"]), "written": row["written"]}
+             for row in rows_of("lines")]
     return {"BACKLOG": summaries.BACKLOG, "SHARES": summaries.SHARES, "LINES": lines, "ACTORS": list(ACTORS),
             "SCRIPT_HEADER": ",".join(scripts.HEADER)}
 

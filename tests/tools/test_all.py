@@ -45,7 +45,7 @@ class Small(ToolCase):
         for folder in ("tests/tools", "bin", "tmp"):
             os.makedirs(self.path(folder))
         self.copy("tests/all", "tests/all.py", "tools/crate_list.py", *(
-            f"tools/rehearse_tools/{name}.py" for name in ("__init__", "console", "programs", "starting")))
+            f"tools/rehearse_tools/{name}.py" for name in ("__init__", "console", "programs")))
         self.write("crates.txt", "low:\nsqs_late_workers: low\n")
         self.write("tests/wrong-bodies/test_run.py", UNITTEST)
         self.script("tools/setup", SETUP)

@@ -79,16 +79,6 @@ class Arrivals(ToolCase):
             bodies |= {record["body"] for record in records}
         self.assertEqual((len(times), len(bodies), max(times) < 100), (3_000, 3_000, True))
 
-    def test_a_metric_that_is_not_complete(self):
-        """Standard error names what is partial; what CloudWatch refused is a fault."""
-        for code, status, told in (("PartialData", 0, "CloudWatch has more values, which --next-token gets"),
-                                   ("Forbidden", 2, "has the status Forbidden")):
-            result = {**METRIC["MetricDataResults"][0], "StatusCode": code}
-            path = self.write("m.json", json.dumps({"MetricDataResults": [result]}))
-            found, _, err = self.run_tool("arrivals", "metric", path)
-            self.assertEqual((found, len(err.splitlines())), (status, 1))
-            self.assertIn(told, err)
-
     def test_hours_of_the_day(self):
         """400 are expected in the second hour of each of two days, within four deviations, and none in another."""
         numbers = ",".join(["0", "400"] + ["0"] * 22)

@@ -1,13 +1,11 @@
 """Tests the file for systems of CI that tools/sweep writes, with a stand-in for the program that sends 100 messages for
 each second of visibility and one for each unit of the seed. What a sweep decides is in sessions/decisions.txt."""
-import csv
-import os
 from xml.etree import ElementTree
 
 from test_sweep import SCENARIO, STAND_IN
-from tool import ROOT, ToolCase, needs_program
+from tool import ToolCase
 from rehearse_tools.console import read_text
-from rehearse_tools.junit import Case, text_of
+from rehearse_tools.decisions import Case, text_of
 
 SEEDS = "--vary", "seed=1..100", "--spread", "seed", "--columns", "sends"
 
@@ -65,15 +63,3 @@ class Decisions(ToolCase):
                           ["error"], "the end\\x00"))
         self.assert_fault(self.sweep("--vary", "seed=1", "--junit", "j.xml"),
                           "sweep: --junit goes with --require (--help tells the usage)")
-
-
-@needs_program
-class Example(ToolCase):
-    def test_sixty_seconds_against_nine_hundred_show_nothing(self) -> None:
-        """The 95th percentile of age differs by 7.3 s, give or take 15.3 s, and is greater in 39 of 100 runs."""
-        scenario = os.path.join(ROOT, "examples", "visibility", "one_minute.toml")
-        status, out, _ = self.run_tool("sweep", scenario, "--vary", "queue.previews.visibility_s=60,900", *SEEDS[:-1],
-                                       "age_p95,age_max", "--against", "queue.previews.visibility_s=60")
-        row = dict(zip(*csv.reader(out.splitlines())))
-        self.assertEqual((status, row["age_p95_shown"], row["age_max_shown"]), (0, "no", "yes"))
-        self.assertEqual((row["age_p95_difference"], row["age_p95_greater"]), ("7291.64", "39"))

@@ -109,16 +109,6 @@ class ByHand(ToolCase):
         self.assertIn("     first send open of                   2 as forwards of w may overtake\n", out)
         self.assertNotIn("age since", out)
 
-    def test_logs_that_lack_rows(self) -> None:
-        """A forward of what was not received, and an arrival of another consumer than the one that forwarded."""
-        for what, text, line in (
-                ("no receive", CHAIN.replace("150,a,w,receive", "150,a,u,receive").replace("5100,a,w", "5100,a,u"),
-                 "run.log line 10: w did not receive m-0-1: is this the whole log?"),
-                ("another consumer", CHAIN.replace("5400,b,w", "5400,b,u"),
-                 "run.log line 12: o-1-0 was not on its way to b: is this the whole log?")):
-            with self.subTest(what=what):
-                self.write("run.log", text)
-                self.assert_fault(self.run_tool("summary", "run.log", "--door"), f"summary: {line}")
 
 
 def chain(seed: int) -> str:

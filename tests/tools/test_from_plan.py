@@ -254,16 +254,6 @@ class FromPlan(ToolCase):
     def test_template(self):
         self.assertTrue(self.made(TEMPLATE, "--latency", "7").startswith(f"\n{TEMPLATE_TABLES}"))
 
-    def test_template_in_json(self):
-        long = {"Parameters": {"Stage": {"Default": "test"}}, "Resources": {
-            "Orders": {"Type": "AWS::SQS::Queue", "Properties": {
-                "QueueName": {"Fn::Sub": ["${Stage}-${What}", {"What": "orders"}]},
-                "RedrivePolicy": {"deadLetterTargetArn": {"Fn::GetAtt": ["Failed", "Arn"]}, "maxReceiveCount": "3"}}},
-            "Failed": {"Type": "AWS::SQS::Queue", "Properties": {"QueueName": {"Ref": "Nothing"}}}}}
-        made = self.made("\ufeff" + json.dumps(long))
-        self.assertIn('name = "test-orders"\ndead_letter = "Failed"\nmax_receives = 3\n', made)
-        self.assertIn("# DEFAULT: its name, as Nothing has no default in the template.\n", made)
-
     def test_files_of_other_kinds(self):
         for data in (b"\x00\xff", bytes(range(256)), b"{" * 100_000, b"[" * 100_000, b"- " * 100_000, b"a: !x {b: [",
                      b"\xff\xfea", b'{"Resources": {"A"', b"{\"values\": " + b"9" * 9_000 + b"}", b"? [a]\n: b\n",

@@ -1,10 +1,13 @@
-"""Tests tools/bench and tools/compute_cases.py, which those use who work on the program."""
+"""Tests tools/bench, layers, proof-times and compute_cases.py, which those use who work on the program."""
 import os
 import re
 import shutil
 import subprocess
+import unittest
 
-from tool import HERE, PROGRAM, ToolCase, needs_program, printed, text_at
+from tool import HERE, PROGRAM, ToolCase, module_of, needs_program, printed, text_at
+
+layers, proof_times = module_of("layers"), module_of("proof-times")
 
 SCENARIO = """version = 1
 horizon = 5
@@ -23,6 +26,18 @@ WRITER = text_at(HERE, "stand-ins", "writer.c")
 # Counts as valgrind writes them: those of the other program are half as many, but for the branches, of which it has a
 # quarter.
 VALGRIND = text_at(HERE, "stand-ins", "valgrind")
+# How crates stand on one another.
+CRATES = {"a": [], "b": ["a"], "c": ["a", "b"], "d": ["b", "c"]}
+# What a check saved, with the moments in seconds.
+SAVED = [
+    (10, "Rattle-one.specs.Numbers.oantt"),
+    (12, "Rattle-one-specs.contracts.list.List.push.Key.oantt"),
+    (15, "Rattle-one-proofs.list.List.push.Proof.oantt"),
+    (16, "Rattle-one-proofs.list.List.push.Code.Mir.oantt"),
+    (20, "Rattle-one-proofs.Order.oantt"),
+    (900, "Rattle-one-proofs.list.first.Answers.oantt"),
+    (901, "Rattle-one.proofs.list.first.Proof.oantt"),
+]
 
 
 class Bench(ToolCase):
@@ -114,3 +129,42 @@ class Cases(ToolCase):
         self.assert_fault(self.run_tool("compute_cases.py", "out", "cases"),
                           "compute_cases.py: cases/a.out is not the output of cases/a.toml")
         self.assertEqual(os.listdir(self.folder), ["cases"])
+
+
+class Layers(unittest.TestCase):
+    def test_the_longest_chain_goes_down_step_by_step(self):
+        self.assertEqual(layers.chain(CRATES, "d"), ["d", "c", "b", "a"])
+        self.assertEqual(layers.chain(CRATES, "a"), ["a"])
+
+    def test_each_path_down_is_a_way(self):
+        # b to a; c to a, b, b-a; d to b, b-a, c, and those of c
+        self.assertEqual([layers.ways(CRATES, name) for name in "abcd"], [0, 1, 3, 6])
+
+    def test_all_that_lies_below(self):
+        self.assertEqual(layers.below(CRATES, "c"), {"a", "b"})
+
+    def test_the_engine_stands_on_nothing_of_sqs(self):
+        crates = layers.read(os.path.join(layers.TOP, "crates.txt"))
+        for name in layers.ENGINE:
+            self.assertEqual([one for one in layers.below(crates, name) if one.startswith("sqs_")], [])
+
+
+class ProofTimes(ToolCase):
+    def setUp(self):
+        super().setUp()
+        for moment, name in SAVED:
+            path = self.write(f"out/incremental/kept/{name}", "")
+            os.utime(path, (moment, moment))
+
+    def test_time_goes_to_what_is_saved_after_it(self):
+        times = proof_times.times_of(self.folder, 120)
+        # what belongs to no function, a pause between two checks and the first file have no time
+        self.assertEqual({name: took for name, took in times.items() if took},
+                         {"list.List.push": 6.0, "Order": 4.0, "list.first": 1.0})
+
+    def test_a_crate_without_checks(self):
+        self.assertEqual(proof_times.times_of(self.path("nowhere"), 120), {})
+
+    def test_no_such_crate(self):
+        self.assertEqual(self.run_tool("proof-times", "sqs_nowhere"),
+                         (2, "", "proof-times: there is no crate sqs_nowhere\n"))

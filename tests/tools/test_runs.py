@@ -4,7 +4,6 @@ from __future__ import annotations
 
 import csv
 import io
-import json
 import os
 import random
 import re
@@ -13,7 +12,7 @@ import unittest
 from itertools import accumulate, chain
 from typing import Any
 
-from test_summary import LOG, PARTS, WAYS, cases
+from test_summary import LOG, PARTS, cases
 from tool import COUNTED, PROGRAM, ToolCase, needs_program, printed, text_at
 from scenario_texts import consumer, producer, queue_of, scenario_of, script, task
 from rehearse_tools import runs
@@ -160,41 +159,6 @@ class Cut(ToolCase):
         self.assertEqual(self.told(3_001)["a"]["depth_max"], "1")
         self.assertEqual(self.told(60_200)["d"], {**dict.fromkeys(COLUMNS, "0"), "expiries": "1", "depth_max": "1",
                                                   "age_max": "", "age_p50": "", "age_p95": "", "age_p99": ""})
-
-    def queues(self, text: str, *words: str) -> dict[str, dict[str, Any]]:
-        out = self.output("summary", "--json", self.write("run.txt", text), *words)
-        run, = json.loads(out)["runs"]
-        return {queue["queue"]: queue for queue in run["queues"]}
-
-    @needs_program
-    def test_summary_from_a_moment_on(self) -> None:
-        """After 2.5 s each of the three messages is handled once, and m-0-2 alone is received, for the first time."""
-        found = self.queues(LOG + PARTS, "--from", "2501")["a"]
-        wanted = {"sent": 0, "came_in": 0, "there_before": 3, "deleted": 2, "handled_once": 3,
-                  "handled_more_than_once": 0, "receives": 1, "received_messages": 1, "tries_mean": 1.0,
-                  "tries_greatest": 1, "failed_services": 1, "dead_lettered": 1, "depth_greatest": 3,
-                  "depth_greatest_at_ms": 2501, "age_p50_ms": 2500, "age_greatest_ms": 2800, "DeleteMessage": 4,
-                  "empty_receives": 2, "left": 0}
-        self.assertEqual({key: found[key] for key in wanted}, wanted)
-
-    @needs_program
-    def test_summary_to_a_moment(self) -> None:
-        """To 2.1 s, what happens then included, m-0-0 is visible again, and two are in flight."""
-        found = self.queues(LOG + PARTS, "--to", "2.1s")["a"]
-        wanted = {"sent": 3, "receives": 3, "deleted": 0, "left": 3, "left_in_flight": 2, "left_visible_or_delayed": 1,
-                  "left_visible": None, "backlog_gone_at_ms": None, "not_empty_since_ms": 100}
-        self.assertEqual({key: found[key] for key in wanted}, wanted)
-        self.assertNotIn("there_before", found)
-        self.assertEqual(self.queues(LOG + PARTS, "--to", "2099")["a"]["left_in_flight"], 3)
-
-    @needs_program
-    def test_summary_between_moments(self) -> None:
-        path = self.write("run.txt", WAYS)
-        out = self.output("summary", path, "--from", "1.5s", "--to", "1700")
-        self.assertEqual(out.splitlines()[1:4], [
-            f"{path}: 4 rows, the last at 1.70 s", "   counted from 1.50 s to 1.70 s",
-            "   it is not told which of the messages left are delayed"])
-        self.assertIn("   deleted                                1 of 2\n", out)
 
     def test_the_cut_is_that_of_the_whole(self) -> None:
         """A cut before the first row and after the last one changes no number."""

@@ -52,11 +52,9 @@ class SummaryCase(ToolCase):
         """Writes a file, in whose rows x stands for the checksum of a body."""
         return super().write(name, text.replace(",,x\n", f",,{MD5}\n") if isinstance(text, str) else text)
 
-    def queues(self, *texts, backlog=10):
-        """What --json tells of the queues of one run, by their names."""
-        paths = [self.write(f"text{place}", text) for place, text in enumerate(texts)]
-        out = self.output("summary", "--json", *paths, "--backlog", str(backlog))
-        run, = json.loads(out)["runs"]
+    def queues(self, text):
+        """What --json tells of the queues of a run, by their names."""
+        run, = json.loads(self.output("summary", "--json", self.write("text", text)))["runs"]
         return {queue["queue"]: queue for queue in run["queues"]}
 
     def assert_values(self, values, **expected):
@@ -64,17 +62,6 @@ class SummaryCase(ToolCase):
 
 
 class Definitions(SummaryCase):
-    def test_a_healthy_queue_has_no_backlog(self):
-        """Twelve messages wait until eleven are received; from then on one waits, and one or two are in flight."""
-        log = HEADER + "".join(f"{i},q,p,send,new,m-0-{i},,x\n" for i in range(12))
-        log += "".join(f"{100 + i},q,c,receive,ok,m-0-{i},r-0-{i}-1,o-0-{i}\n" for i in range(11))
-        self.assert_values(self.queues(log)["q"], backlog_gone_at_ms=101, left=12)
-        self.assertIn("backlog gone at                   101 ms\n", self.run_tool("summary", self.path("text0"))[1])
-        self.assert_values(self.queues(log + "200,q,q,release,visible,m-0-0,,\n", backlog=1)["q"],
-                           backlog_gone_at_ms=None, backlog_since_ms=200)
-        self.assert_values(self.queues(log, backlog=12)["q"], backlog_gone_at_ms=None, backlog_since_ms=None)
-        self.assert_fault(self.run_tool("summary", "text0", "--backlog", "-1"), "summary: --backlog is at least 0")
-
     def test_nearest_ranks(self):
         """Of the ages 1 to 1,000 s the ranks are 500, 950 and 990 s, also without a report."""
         log = HEADER + "".join(f"{i},q,p,send,new,m-0-{i},,x\n" for i in range(1_000))

@@ -136,13 +136,6 @@ class Sweep(ToolCase):
                                rb"0 failed\r\n$")
 
     @needs_program
-    def test_copies_with_the_program(self):
-        """Each of n copies of a producer of three messages sends its three."""
-        path = self.write("p.toml", scenario_of(10_000, queue_of("q"), producer("shop", "q", 3, 1)))
-        status, out, _ = self.sweep(path, "--program", PROGRAM, "--vary", "count.shop=1..4", "--columns", "sends")
-        self.assertEqual((status, [row[-1] for row in self.records(out)[1]]), (0, ["3", "6", "9", "12"]))
-
-    @needs_program
     def test_copies_change_nothing_of_other_actors(self):
         """What is sent to b does not depend on how many workers a has."""
         tables = [queue_of(name) + producer(f"{name}-sender", name, 9_000, (1, 1_999)) + consumer(
@@ -164,14 +157,3 @@ class Sweep(ToolCase):
         self.assertEqual((status, sorted(lines) + out.splitlines()), (1, sorted(told.splitlines()[:5])
                          + told.splitlines()[5:]))
 
-    @needs_program
-    def test_with_the_program(self):
-        example = os.path.join(ROOT, "examples", "first.toml")
-        status, out, _ = self.sweep(example, "--program", PROGRAM, "--vary", "queue.orders.visibility_s=5,0,43201")
-        _, rows = self.records(out)
-        self.assertEqual(status, 1)
-        # The script sends twice, deletes once and receives three times; with a timeout of 0 what it received is
-        # back at once, so that the delete takes the first message, the second receive the second, and so on.
-        self.assertEqual([row[:8] for row in rows[:2]], [["5", "", "orders", "2", "0", "3", "0", "1"],
-                                                         ["0", "", "orders", "2", "0", "3", "0", "1"]])
-        self.assertEqual(rows[2][1], "refused 14 OutOfRange at queue[0].visibility_s")

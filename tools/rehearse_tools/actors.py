@@ -1,4 +1,4 @@
-"""The actors of a scenario that from-plan and from-queue make. They import it; it is not a command.
+"""The actors of a scenario that from-plan and from-queue make, and its text. They import it; it is not a command.
 
 A file of real queues says at most who sends and receives, but not how many messages and how long their service takes.
 So what is made here is marked SKELETON in a comment.
@@ -8,9 +8,12 @@ from __future__ import annotations
 import dataclasses
 import math
 import re
-from collections.abc import Iterable
+from argparse import Namespace
+from collections.abc import Iterable, Sequence
 from typing import Any
 
+from .console import Fault, Parser, check_output, note, refuse, write_text
+from .keys import VERSION_3
 from .queues import NAME, NAME_MOST, Queue
 from .scenarios import text_of_table
 
@@ -24,6 +27,18 @@ BATCH_MOST, CONSUMERS, CONSUMERS_MOST = 10, 5, 100
 FORWARDS_MOST = 10
 # Messages of the depth that one producer sends, one each millisecond, while there are not too many producers.
 DEPTH_OF_PRODUCER, DEPTH_PRODUCERS_MOST = 1_000, 100
+QUEUES_MOST = 1_000
+LATENCY = re.compile(r"latency_ms = ([0-9]+)")
+HEAD = """# Queues from {source}. Each DEFAULT marks what is not told there: check it.
+# DEFAULT of every queue: in_flight of 120000, the quota of SQS, and for standard queues hosts of 1, so that a short
+# poll sees every message; bodies have at most 1,024 bytes.
+{actors}
+version = {version}
+horizon = {horizon} # DEFAULT: how long to rehearse, in milliseconds.
+"""
+NO_ACTORS = "# To rehearse them, add actors that send and receive."
+VERSION_3_TEXT = "# This has version 3 of scenarios: run it with --v3.\n"
+SKELETONS = "# Each SKELETON marks actors that were made up: give them the rates and times of your own."
 
 
 @dataclasses.dataclass
@@ -75,8 +90,8 @@ class Mapping:
 class Subscription:
     """A subscription of SNS, by which the messages of a topic go to a queue.
 
-    `topic` is what the topic is called, and `source` what the file says of it, which is the same for two subscriptions of
-    one topic, and empty if the file does not tell the topic.
+    `topic` is what the topic is called, and `source` what the file says of it, which is the same for two subscriptions
+    of one topic, and empty if the file does not tell the topic.
     """
 
     place: str
@@ -147,11 +162,6 @@ def name_apart(queue: str, end: str, taken: set[str], last: str = "", copies: in
         number += 1
 
 
-def commented(lines: Iterable[str]) -> str:
-    """Sentences as comments."""
-    return "".join(f"# {plain(line[:1].upper() + line[1:])}.\n" for line in lines)
-
-
 class Actors:
     """The tables of actors for some queues, as a text, and notes on them, each with the place that it is about."""
 
@@ -164,7 +174,7 @@ class Actors:
 
     def begin(self, title: str, place: str, notes: list[str]) -> None:
         """Begins a group of actors with its comments."""
-        self.text += "\n" + commented([title, *notes])
+        self.text += "\n" + "".join(f"# {plain(line[:1].upper() + line[1:])}.\n" for line in (title, *notes))
         self.notes += [(place, plain(note)) for note in notes]
 
     def producer(self, queue: Queue, name: str, count: int, gaps: tuple[int, int] = (100, 1_900), **more: Any) -> None:
@@ -178,14 +188,6 @@ class Actors:
         self.text += text_of_table("actor", {
             "name": name, "kind": "consumer", "queue": queue.name, "batch": batch, "wait_s": queue.wait or WAIT,
             "service_min_ms": times[0], "service_max_ms": times[1], "idle_ms": 1, **more})
-
-    def skeleton_producer(self, queue: Queue) -> None:
-        self.begin(f"SKELETON: who sends to {queue.name}", queue.name, [])
-        self.producer(queue, name_apart(queue.name, "-sender", self.taken), self.count)
-
-    def skeleton_consumer(self, queue: Queue) -> None:
-        self.begin(f"SKELETON: who works on {queue.name}", queue.name, [])
-        self.consumer(queue, name_apart(queue.name, "-worker", self.taken), 1)
 
     def of_mapping(self, queue: Queue, mapping: Mapping) -> None:
         self.begin(f"SKELETON: the function {mapping.function} takes messages of {queue.name}, by {mapping.place}",
@@ -208,8 +210,8 @@ class Actors:
                    f"{', '.join(dict.fromkeys(found.place for found in topic.subscriptions))}", topic.queue.name,
                    [f"DEFAULT: latency_min_ms and latency_max_ms of {topic.latency}, how long that takes, as nothing "
                     f"tells it"])
-        self.consumer(topic.queue, name_apart(topic.queue.name, "-sends", self.taken), BATCH_MOST, (1, 1), forward=queues,
-                      latency_min_ms=topic.latency, latency_max_ms=topic.latency)
+        self.consumer(topic.queue, name_apart(topic.queue.name, "-sends", self.taken), BATCH_MOST, (1, 1),
+                      forward=queues, latency_min_ms=topic.latency, latency_max_ms=topic.latency)
 
     def depth(self, queue: Queue, attribute: str, count: int) -> None:
         """Producers that send the messages which are there in the beginning, within the first moments."""
@@ -219,20 +221,12 @@ class Actors:
         end, more = "-depth-delayed" if is_delayed else "-depth", {} if is_delayed else {"delay_s": 0}
         self.begin(f"DEPTH: the {count} messages of {attribute}, sent in the first {counts[0]} ms, as the file does "
                    f"not tell their ages", queue.name, [])
-        if self.is_version_3:
-            self.copied_depth(queue, end, counts, more)
-            return
-        for place, part in enumerate(counts):
+        # in version 3 one table stands for all that send as many messages
+        for place, part in enumerate(dict.fromkeys(counts) if self.is_version_3 else counts):
             self.text += "\n" if place else ""
-            self.producer(queue, name_apart(queue.name, f"{end}-{place + 1}", self.taken), part, (1, 1), **more)
-
-    def copied_depth(self, queue: Queue, end: str, counts: list[int], more: dict[str, Any]) -> None:
-        """The same producers in one table for each number of messages that they send, which are two at most."""
-        for place, part in enumerate(dict.fromkeys(counts)):
-            self.text += "\n" if place else ""
-            copies = counts.count(part)
-            name = name_apart(queue.name, end, self.taken, copies=copies)
-            self.producer(queue, name, part, (1, 1), **more, copies=copies)
+            copies = counts.count(part) if self.is_version_3 else 0
+            name = name_apart(queue.name, end if copies else f"{end}-{place + 1}", self.taken, copies=copies)
+            self.producer(queue, name, part, (1, 1), **more, **({"copies": copies} if copies else {}))
 
     def of_wiring(self, queues: list[Queue], wiring: Wiring) -> None:
         """For each queue the senders and receivers that the file names, else skeletons if it takes no dead letters."""
@@ -249,11 +243,72 @@ class Actors:
             for subscription in subscriptions:
                 self.of_subscription(queue, subscription, of_topic[subscription.topic])
             if not subscriptions and queue.name not in fed:
-                self.skeleton_producer(queue)
+                self.begin(f"SKELETON: who sends to {queue.name}", queue.name, [])
+                self.producer(queue, name_apart(queue.name, "-sender", self.taken), self.count)
             if queue.name in self.topics:
                 self.of_topic(self.topics[queue.name])
                 continue
             for mapping in mappings:
                 self.of_mapping(queue, mapping)
             if not mappings and queue.name not in dead_letters:
-                self.skeleton_consumer(queue)
+                self.begin(f"SKELETON: who works on {queue.name}", queue.name, [])
+                self.consumer(queue, name_apart(queue.name, "-worker", self.taken), 1)
+
+
+def scenario_text(queues: Sequence[Queue], source: str, horizon: int, notes: Sequence[str], actors: str,
+                  is_version_3: bool) -> str:
+    """The text of a scenario; `notes` are of no queue, and `actors` is the text of the actors."""
+    title = SKELETONS if "# SKELETON" in actors else NO_ACTORS
+    text = HEAD.format(source=source, actors=(VERSION_3_TEXT if is_version_3 else "") + title, horizon=horizon,
+                       version=VERSION_3 if is_version_3 else 1)
+    for queue in queues:
+        text += "\n".join(["", "[[queue]]", *queue.lines, *(f"# {note}." for note in queue.notes)]) + "\n"
+    return text + ("\n" if notes else "") + "".join(f"# {note}.\n" for note in notes) + actors
+
+
+def add_options(parser: Parser) -> None:
+    """The options that from-queue and from-plan share."""
+    parser.take("--output", numbers={"--horizon": 3_600_000, "--latency": 100})
+
+
+def check_options(options: Namespace, inputs: Iterable[str]) -> None:
+    if not 1 <= options.horizon <= 2_592_000_000 or not 1 <= options.latency <= 900_000:
+        raise Fault("a horizon has 1 to 2592000000 ms, a latency 1 to 900000 ms")
+    check_output(options.output, inputs)
+
+
+def tell_and_write(queues: list[Queue], options: Namespace, source: str, wiring: Wiring | None = None,
+                   is_version_3: bool = False) -> int:
+    """Prints the notes on all queues and writes the scenario, or prints the faults; returns the status.
+
+    With `wiring` it has actors; with --depth those that send what is there in the beginning. With `is_version_3` it has
+    version 3, in which a topic of several queues is a queue of its own.
+    """
+    topics = topics_in(wiring, queues, options.latency) if wiring and is_version_3 else []
+    queues = [*queues, *(topic.queue for topic in topics)]
+    refuse(len(queues) > QUEUES_MOST, f"{len(queues)} queues are too many: a scenario has at most {QUEUES_MOST}")
+    faults = [f"{queue.name}: {fault}" for queue in queues for fault in queue.faults]
+    if faults:
+        for line in faults:
+            note(line)
+        return 2
+    for queue in queues if is_version_3 else ():
+        # from version 2 on the latency of a queue's redrives has two bounds
+        queue.lines = [LATENCY.sub(r"latency_min_ms = \1\nlatency_max_ms = \1", line) for line in queue.lines]
+        queue.notes = [text.replace("latency_ms of", "latency_min_ms and latency_max_ms of") for text in queue.notes]
+    actors = Actors(queues, options.horizon, is_version_3, topics)
+    for queue in queues:
+        for attribute, count in queue.present.items():
+            actors.depth(queue, attribute, count)
+    if wiring is not None:
+        actors.of_wiring(queues, wiring)
+    for queue in queues:
+        if queue.wait and queue.name not in actors.received:
+            queue.note(f"{queue.title('ReceiveMessageWaitTimeSeconds')} is left out: give its consumers wait_s = "
+                       f"{queue.wait}")
+    notes = [plain(text) for text in wiring.notes] if wiring else []
+    for line in [*(f"{queue.name}: {text}" for queue in queues for text in queue.notes), *notes,
+                 *(f"{place}: {text}" for place, text in actors.notes)]:
+        note(line)
+    write_text(options.output, scenario_text(queues, source, options.horizon, notes, actors.text, is_version_3))
+    return 0

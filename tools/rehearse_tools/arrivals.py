@@ -41,7 +41,9 @@ Examples:
 from __future__ import annotations
 
 import collections
+import csv
 import datetime
+import io
 import math
 import os
 import random
@@ -54,12 +56,12 @@ from typing import Any, NamedTuple
 
 from .console import Fault, Parser, check_output, csv_text, note, print_text, refuse, shown, write_text
 from .queues import NAME, json_in, read_any
-from .records import PLAIN_NUMBER, column_of, records_in
 from .scenarios import text_of_string
-from .scripts import AT_MOST, BODY_MOST, BYTES_MOST, HEADER, RECORDS_MOST
+from .scripts import AT_MOST, BODY_MOST, BYTES_MOST, FIELD_LIMIT, HEADER, RECORDS_MOST
 from .units import NUMBER, UNITS, quantity
 
 SENDS_MOST = 5_000_000
+PLAIN_NUMBER = re.compile(r"-?[0-9]{1,15}(?:\.[0-9]{1,12})?")
 RATE = re.compile(rf"({NUMBER})/({'|'.join(sorted(UNITS, key=len, reverse=True))})")
 CALENDAR = re.compile(r"[0-9]{4}-[0-9]{2}-[0-9]{2}(?:$|[T ][0-9:.+Z-]{1,30}$)")
 DAY, HOUR = 86_400_000, 3_600_000
@@ -138,6 +140,22 @@ def counted_from(times: Sequence[Fraction], origin: str | None, unit: int) -> li
     return [time - start for time in times]
 
 
+def records_in(path: str) -> list[list[str]]:
+    """The records of a CSV file that has times."""
+    csv.field_size_limit(FIELD_LIMIT)
+    try:
+        records = [record for record in csv.reader(io.StringIO(read_any(path), newline=""), strict=True) if record]
+    except csv.Error as error:
+        raise Fault(f"{path} is not CSV: {error}") from None
+    refuse(not records, f"{path} has no times")
+    return records
+
+
+def column_of(header: Sequence[str], name: str, path: str) -> int:
+    refuse(name not in header, f"{path} has no column {shown(name)}; it has {', '.join(map(shown, header))}")
+    return header.index(name)
+
+
 def times_of_file(options: Namespace) -> list[Arrival]:
     """The messages of a file of times, with what its columns say of them."""
     path, records = options.file, records_in(options.file)
@@ -180,12 +198,18 @@ def points_of_metric(found: Any, name: str | None, path: str) -> list[tuple[Frac
         times, values = [point.get("Timestamp") for point in points], [point.get("Sum") for point in points]
     else:
         raise Fault(f"{path} is not what `aws cloudwatch get-metric-data` prints")
-    if not isinstance(times, list) or not isinstance(values, list) or len(times) != len(values) or not times:
+    return [(time, round(value))
+            for time, value in points_of(times or None, values, path, (0, SENDS_MOST), "number of messages")]
+
+
+def points_of(times: Any, values: Any, path: str, bounds: tuple[int, int], what: str) -> list[tuple[Fraction, float]]:
+    """Pairs of a moment in milliseconds and a value, by lists that are equally long."""
+    if not isinstance(times, list) or not isinstance(values, list) or len(times) != len(values):
         raise Fault(f"{path} has no Timestamps with as many Values")
-    moments = moments_of(times, 1_000)
-    if moments is None or not all(isinstance(value, (int, float)) and 0 <= value <= SENDS_MOST for value in values):
-        raise Fault(f"{path} has a time or a number of messages that is none")
-    return list(zip(moments, (round(value) for value in values)))
+    moments, (low, high) = moments_of(times, 1_000), bounds
+    if moments is None or not all(isinstance(value, (int, float)) and low <= value <= high for value in values):
+        raise Fault(f"{path} has a time or a {what} that is none")
+    return list(zip(moments, map(float, values)))
 
 
 def check_status(result: dict[str, Any], path: str) -> None:
@@ -312,27 +336,25 @@ def write_scripts(records: list[list[Any]], options: Namespace) -> None:
     print_text("\n".join(tables))
 
 
-# The options of each kind that take a text, and those that take a number.
-OPTIONS: dict[str, tuple[tuple[str, ...], dict[str, int | None]]] = {
-    "times": (("--column", "--bodies", "--group-ids", "--deduplication-ids", "--unit"), {}),
-    "metric": (("--id",), {"--period": 60}), "poisson": (("--rate", "--duration"), {}),
-    "bursts": (("--every", "--over", "--duration"), {"--size": None}), "hours": (("--numbers", "--duration"), {})}
-# What makes the times of each kind; a file of times has whole messages.
-KINDS: dict[str, Callable[[Namespace], list[Any]]] = {
-    "times": times_of_file, "metric": times_of_metric, "poisson": times_of_poisson, "bursts": times_of_bursts,
-    "hours": times_of_hours}
+# What makes the times of each kind, its options that take a text, and those that take a number. A file of times has
+# whole messages.
+KINDS: dict[str, tuple[Callable[[Namespace], list[Any]], tuple[str, ...], dict[str, int | None]]] = {
+    "times": (times_of_file, ("--column", "--bodies", "--group-ids", "--deduplication-ids", "--unit"), {}),
+    "metric": (times_of_metric, ("--id",), {"--period": 60}),
+    "poisson": (times_of_poisson, ("--rate", "--duration"), {}),
+    "bursts": (times_of_bursts, ("--every", "--over", "--duration"), {"--size": None}),
+    "hours": (times_of_hours, ("--numbers", "--duration"), {})}
 
 
 def options_of(words: Sequence[str]) -> Namespace:
     parser = Parser(__doc__)
     kinds = parser.add_subparsers(dest="kind", required=True, metavar="times|metric|poisson|bursts|hours")
-    for name in KINDS:
+    for name, (_, texts, numbers) in KINDS.items():
         kind = kinds.add_parser(name, add_help=False)
         kind.add_argument("-h", "--help", action="store_true")
         if name in ("times", "metric"):
             kind.add_argument("file", nargs="?", metavar="FILE")
             kind.add_argument("--origin")
-        texts, numbers = OPTIONS[name]
         kind.take("--queue", "--body", "--output", *texts, numbers={
             "--groups": 10, "--seed": 0, "--start": 0, "--side-by-side": 1, **numbers})
         kind.set_defaults(body="message {n}", **({"unit": "s"} if name == "times" else {}))
@@ -359,7 +381,7 @@ def main(words: Sequence[str]) -> int:
         if not (options.queue or "").endswith(".fifo"):
             raise Fault("message groups and deduplication ids are of a FIFO queue, which --queue names, as orders.fifo")
     check_output(options.output, [getattr(options, "file", None)])
-    found = KINDS[options.kind](options)
+    found = KINDS[options.kind][0](options)
     arrivals: list[Arrival] = found if options.kind == "times" else [Arrival(time) for time in found]
     tell_put_off(arrivals, options.side_by_side)
     records = list(records_of(arrivals, options))

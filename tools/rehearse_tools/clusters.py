@@ -113,7 +113,8 @@ class Cluster:
             return Ended(status, first_line(err), take(io.StringIO(out.decode("utf-8", "replace"), newline="")))
         status, out, err = self.ran(COUNT, pickle.dumps((command, text, take)))
         if status > 0:
-            raise Fault(f"a worker of the cluster cannot count a log: {shown(last_line(err))}")
+            last = err.decode("utf-8", "replace").strip().rpartition("\n")[2]
+            raise Fault(f"a worker of the cluster cannot count a log: {shown(last)}")
         return Ended(status, "", None) if status else Ended(*pickle.loads(out))
 
     def ran(self, command: Sequence[str], data: bytes) -> tuple[int, bytes, bytes]:
@@ -156,10 +157,6 @@ class Cluster:
         except Exception:
             # the scheduler is gone, and there is nothing to take away
             pass
-
-
-def last_line(data: bytes) -> str:
-    return data.decode("utf-8", "replace").strip().rpartition("\n")[2]
 
 
 def reason_of(error: Exception) -> str:

@@ -88,16 +88,13 @@ class Parser(argparse.ArgumentParser):
 
 def library(name: str, package: str) -> Any:
     """A library that a package of Debian has; a fault if it is missing."""
-    try:
-        return importlib.import_module(name)
-    except ImportError:
-        pass
-    if DEBIAN_LIBRARIES not in sys.path:
-        sys.path.append(DEBIAN_LIBRARIES)
-    try:
-        return importlib.import_module(name)
-    except ImportError:
-        raise missing_library(name, package) from None
+    for _ in range(2):
+        try:
+            return importlib.import_module(name)
+        except ImportError:
+            if DEBIAN_LIBRARIES not in sys.path:
+                sys.path.append(DEBIAN_LIBRARIES)
+    raise missing_library(name, package)
 
 
 class Library:
@@ -119,8 +116,8 @@ def toml_of(text: str) -> dict[str, Any]:
             return found
         except ImportError:
             pass
-    raise Fault("the library tomli is missing: Python has it since 3.11; for an older one `pip install tomli`, or Debian's "
-                "package python3-tomli")
+    raise Fault("the library tomli is missing: Python has it since 3.11; for an older one `pip install tomli`, or "
+                "Debian's package python3-tomli")
 
 
 def missing_library(name: str, package: str) -> Fault:
@@ -413,10 +410,9 @@ def ended(main: Callable[[list[str]], int]) -> int:
 
 
 def ended_as_told(main: Callable[[list[str]], int]) -> int:
-    if isinstance(sys.stdout, io.TextIOWrapper):
-        sys.stdout.reconfigure(encoding="utf-8", errors="backslashreplace")
-    if isinstance(sys.stderr, io.TextIOWrapper):
-        sys.stderr.reconfigure(encoding="utf-8", errors="backslashreplace")
+    for stream in (sys.stdout, sys.stderr):
+        if isinstance(stream, io.TextIOWrapper):
+            stream.reconfigure(encoding="utf-8", errors="backslashreplace")
     if is_terminal(sys.stdout):
         sys.stdout = cast(TextIO, Terminal(sys.stdout))
     try:

@@ -28,14 +28,14 @@ from collections.abc import Iterator, Sequence
 from typing import Any
 
 from .console import Fault, Parser, print_text, read_bytes, read_text, shown, toml_of
-from .keys import (ACTORS, FIFO, ITEMS, NUMBER, NUMBER_OR_NUMBERS, NUMBERS, QUANTILES, REQUIRED, STEPS, STRETCHES,
-                   TABLES, TEXT, TEXT_OR_TEXTS, VERSION_3, VERSIONS, WEIGHTS, Key, keys_of)
+from .fact_tables import rows_of
+from .keys import (ACTORS, FIFO, ITEMS, NUMBER, NUMBER_OR_NUMBERS, REQUIRED, TABLES, TEXT, VERSION_3, VERSIONS, Key,
+                   keys_of)
 from .loads import text_of_loads
 from .positions import Lost, Path, Positions
-from .programs import program_of, reading_words
-from .scenarios import parsed, text_of_value as text_of
+from .programs import program_of, ran, reading_words
+from .scenarios import items_of, names_of, parsed, text_of_value as text_of
 from .scripts import fault_of_script, nearest
-from .starting import ran
 from .units import several
 
 REFUSED = re.compile(r"refused ([0-9]+) ([A-Za-z]+)(?: at (.*))?", re.S)
@@ -48,22 +48,9 @@ KINDS = {str: "a text", bool: "true or false", int: "a whole number", float: "a 
 NAMES = {"queue": "A queue's name has 1 to 80 ASCII letters, digits, - and _, and for a FIFO queue .fifo at its end, "
                   "which counts among the 80.",
          "actor": "A name has 1 to 80 ASCII letters, digits, - and _."}
-# What a list that is the value of a key has.
-LISTS = {NUMBERS: "whole numbers", QUANTILES: "pairs [permille, ms]", WEIGHTS: "pairs [group, weight]",
-         STRETCHES: "pairs [from, to] in ms", STEPS: "pairs [visible, copies]", TEXT_OR_TEXTS: "texts if it is a list"}
-QUANTILES_RULE = "It is a pair [permille, ms]. The first permille is 0 and the last 1,000; each other one is greater " \
-    "than the one before it, and at most 999. Times have 1 to 86,400,000, and none is less than the one before it."
-WEIGHTS_RULE = "It is a pair [group, weight]. The group has 1 to 128 bytes of 0x21 to 0x7E, and the weight has 1 to " \
-    "1,000,000."
-STRETCHES_RULE = "It is a pair [from, to] in ms. Both have 0 to 2,592,000,000, and the second is no less than the first."
-STEPS_RULE = "It is a pair [visible, copies]. The first number has 0 to 1,000,000, and is greater than that of the pair " \
-    "before it. The second has 0 to 1,000."
-ITEM_FORMS = {NUMBERS: NUMBER, NUMBER_OR_NUMBERS: NUMBER, TEXT_OR_TEXTS: TEXT,
-              QUANTILES: "a pair of two whole numbers, as [500, 120]",
-              WEIGHTS: 'a pair of a text and a whole number, as ["customer-7", 90]',
-              STRETCHES: "a pair of two whole numbers, as [600000, 1800000]",
-              STEPS: "a pair of two whole numbers, as [100, 4]"}
-ITEM_RULES = {QUANTILES: QUANTILES_RULE, WEIGHTS: WEIGHTS_RULE, STRETCHES: STRETCHES_RULE, STEPS: STEPS_RULE}
+# Of each kind of key that may be a list: what the list has, what an item of it is, and by which rule.
+LISTS, ITEM_FORMS, ITEM_RULES = ({row["told"]: row[column] for row in rows_of("kinds") if row[column]}
+                                 for column in ("list", "form", "rule"))
 NAME_MOST = 80
 COPIES_MOST = 1_000
 # The kinds of actors that may have copies.
@@ -136,15 +123,18 @@ class Scenario:
     def keys(self) -> dict[str, Key]:
         return {key.name: key for key in keys_of(self.of, self.kind, self.version)}
 
+    @property
+    def known(self) -> Key | None:
+        """The key at the place of the fault, if its table may have it."""
+        return self.keys().get(self.key)
+
     def is_fifo(self) -> bool:
         """Whether the queue, or the home of the actor or task, is a FIFO queue."""
         return str(self.value("name" if self.of == "queue" else "queue")).endswith(".fifo")
 
-    def tasks(self) -> list[str]:
-        """The names of the tasks at the home of the actor."""
-        tasks = self.found.get("task", [])
-        return [str(task.get("name")) for task in tasks if isinstance(task, dict)
-                and task.get("queue") == self.value("queue")] if isinstance(tasks, list) else []
+    def at_home(self, of: str) -> list[dict[str, Any]]:
+        """The tables of actors or tasks that are at the home of the actor."""
+        return [item for item in items_of(self.found, of) if item.get("queue") == self.value("queue")]
 
     def title(self) -> str:
         """The name of the table for messages: its kind and its name."""
@@ -164,14 +154,9 @@ class Scenario:
         return None
 
 
-def value_text(value: Any) -> str:
-    return shown(str(value).lower() if isinstance(value, bool) else str(value))
-
-
 def unknown_key(scenario: Scenario) -> str:
     """A key that its table does not have: of another kind of queue, beside another key, or none at all."""
-    key, title = scenario.key, scenario.title()
-    found = scenario.keys().get(key)
+    key, title, found = scenario.key, scenario.title(), scenario.known
     if found and found.queues and (found.queues == FIFO) != scenario.is_fifo():
         what = "is" if scenario.of == "queue" else "is at"
         other = "a standard queue" if found.queues == FIFO else "a FIFO queue"
@@ -181,36 +166,28 @@ def unknown_key(scenario: Scenario) -> str:
     if found and found.beside:
         return f"{key} stands only together with {' or '.join(found.beside)}, which {title} does not have."
     if found and key == "fail_service_ms":
-        return f'{title} has batch_service = "once", beside which {key} stands only together with batch_fails = "whole".'
-    other = replaced_by(scenario, key)
-    if other:
-        return f"{title} has both {key} and {other}; {other} takes its place."
+        return f'{title} has batch_service = "once", beside which {key} stands only together with batch_fails = ' \
+               '"whole".'
+    for name, taking in scenario.keys().items():
+        if key in taking.replaces and scenario.is_table and name in scenario.table:
+            return f"{title} has both {key} and {name}; {name} takes its place."
     version = next((it for it in VERSIONS if key in {known.name for known in
                                                      keys_of(scenario.of, scenario.kind, it)}), scenario.version)
     if not found and version != scenario.version:
-        wanted = f" has {latency_keys(scenario.version)}" if key.startswith("latency_") else " has no such key"
-        return f"{key} is a key of version {version}; version {scenario.version}{wanted}."
+        latencies = "latency_ms" if scenario.version == 1 else "latency_min_ms and latency_max_ms"
+        return f"{key} is a key of version {version}; version {scenario.version} has " \
+               f"{latencies if key.startswith('latency_') else 'no such key'}."
     kinds = [kind for kind in ACTORS if key in {known.name for known in keys_of("actor", kind, scenario.version)}]
     if scenario.of == "actor" and kinds:
         return f"{key} is a key of a {' or '.join(kinds)}, and {title} is none."
-    known = [name for name, found in scenario.keys().items()
+    names = [name for name, found in scenario.keys().items()
              if not found.queues or (found.queues == FIFO) == scenario.is_fifo()]
-    return f"{shown(key or '')} is no key of {title}; it has {', '.join(known)}.{nearest(key, known)}"
-
-
-def replaced_by(scenario: Scenario, key: str) -> str:
-    """The key of the table that stands in the place of a key, if there is one."""
-    return next((other.name for other in scenario.keys().values()
-                 if key in other.replaces and scenario.is_table and other.name in scenario.table), "")
-
-
-def latency_keys(version: int) -> str:
-    return "latency_ms" if version == 1 else "latency_min_ms and latency_max_ms"
+    return f"{shown(key or '')} is no key of {title}; it has {', '.join(names)}.{nearest(key, names)}"
 
 
 def missing_key(scenario: Scenario) -> str:
-    key, title = scenario.key, scenario.title()
-    found = scenario.keys().get(key)
+    """A key that has to be there, the one that may be there in its place, and one that may have been meant for it."""
+    key, title, found, keys = scenario.key, scenario.title(), scenario.known, scenario.keys()
     if key == "calls":
         return f"{title} has neither calls nor script, and needs one of them."
     text = f"{title} has no {key}, which is required"
@@ -218,28 +195,11 @@ def missing_key(scenario: Scenario) -> str:
         text += f" beside {' or '.join(found.beside)}"
     if found and found.queues:
         text += f" at a {found.queues} queue"
-    return f"{text}{in_its_place(scenario, key)}.{range_beside(scenario, found)}{nearest_key(scenario)}"
-
-
-def in_its_place(scenario: Scenario, key: str) -> str:
-    """The key that may be there in place of one that is missing, which has no other, and goes with none that is
-    there."""
-    keys = scenario.keys()
-    goes_along = key in keys and keys[key].beside
-    found = next((other.name for other in keys.values() if key in other.replaces and not goes_along), "")
-    return f"; {found} may be there in its place" if found else ""
-
-
-def nearest_key(scenario: Scenario) -> str:
-    """A key that may have been meant for one that is missing."""
-    unknown = [name for name in scenario.table if name not in scenario.keys()] if scenario.is_table else []
-    found = difflib.get_close_matches(scenario.key, unknown, 1, 0.6)
-    return f" Is {shown(found[0])} meant to be it?" if found else ""
-
-
-def of_each(key: Key) -> str:
-    low, high = ITEMS.get(key.name, (0, 0))
-    return f", each from {low:,} to {high:,}" if high else ""
+    if not (found and found.beside):
+        text += next((f"; {name} may be there in its place" for name in keys if key in keys[name].replaces), "")
+    unknown = [name for name in scenario.table if name not in keys] if scenario.is_table else []
+    near = difflib.get_close_matches(key, unknown, 1, 0.6)
+    return f"{text}.{range_beside(scenario, found)}" + (f" Is {shown(near[0])} meant to be it?" if near else "")
 
 
 def range_text(key: Key | None) -> str:
@@ -250,7 +210,8 @@ def range_text(key: Key | None) -> str:
     if key.name == "version":
         return f" It is {VERSIONS[0]} or {VERSIONS[1]}, or {VERSION_3} for the word --v3."
     if key.kind in LISTS:
-        return f" It has {key.low:,} to {key.high:,} {LISTS[key.kind]}{of_each(key)}."
+        each = ", each from {:,} to {:,}".format(*ITEMS[key.name]) if key.name in ITEMS else ""
+        return f" It has {key.low:,} to {key.high:,} {LISTS[key.kind]}{each}."
     if key.kind == TEXT and key.high:
         return f" It has {key.low:,} to {key.high:,} bytes."
     if key.kind not in (NUMBER, NUMBER_OR_NUMBERS):
@@ -276,47 +237,31 @@ def range_beside(scenario: Scenario, key: Key | None) -> str:
 
 
 def wrong_type(scenario: Scenario) -> str:
-    found, key = scenario.keys().get(scenario.key), scenario.key
-    if scenario.key is None:
-        return f"Item number {scenario.number + 1} of {scenario.of} is " \
-               f"{KINDS.get(type(scenario.table), 'a date or time')}, and has to be a table."
-    value = scenario.value(key)
-    kind = KINDS.get(type(value), "a date or time")
+    key, found, value = scenario.key, scenario.known, scenario.value(scenario.key)
+    if key is None:
+        item = f"Item number {scenario.number + 1} of {scenario.of}"
+        return f"{item} is {kind_of(scenario.table)}, and has to be a table."
     if scenario.item is not None:
-        return item_of_wrong_type(scenario)
+        return f"{item_text(scenario)}, and has to be {ITEM_FORMS[found.kind] if found else 'of another kind'}."
     hint = ""
     if found and found.kind == NUMBER and isinstance(value, str) and value.strip().isdigit():
         hint = " A number stands without quotes."
     elif found and found.kind == TABLES:
         hint = f" Each begins with [[{key}]]."
     elif isinstance(value, list) and key in {"forward", "fails_permille"}:
-        return list_in_vain(scenario)
-    return f"{key} of {scenario.title()} is {kind}, and has to be {found.kind if found else 'of another kind'}.{hint}" \
-           f"{range_text(found) if found and found.kind != TABLES else ''}"
+        why = "which is of version 3" if key == "forward" else "which stands only beside fails_between_ms"
+        return f"{key} of {scenario.title()} is a list, {why}."
+    wanted, told = (found.kind, "" if found.kind == TABLES else range_text(found)) if found else ("of another kind", "")
+    return f"{key} of {scenario.title()} is {kind_of(value)}, and has to be {wanted}.{hint}{told}"
 
 
-def list_in_vain(scenario: Scenario) -> str:
-    """A list where one value alone may stand."""
-    why = "which is of version 3" if scenario.key == "forward" else "which stands only beside fails_between_ms"
-    return f"{scenario.key} of {scenario.title()} is a list, {why}."
+def kind_of(value: Any) -> str:
+    return KINDS.get(type(value), "a date or time")
 
 
 def item_text(scenario: Scenario) -> str:
     """An item of a list, as it begins a sentence."""
     return f"{scenario.what_is_here()} is {shown(text_of(scenario.value_here()))}"
-
-
-def item_of_wrong_type(scenario: Scenario) -> str:
-    found = scenario.keys().get(scenario.key)
-    return f"{item_text(scenario)}, and has to be {ITEM_FORMS[found.kind] if found else 'of another kind'}."
-
-
-def item_out_of_range(scenario: Scenario) -> str:
-    found = scenario.keys().get(scenario.key)
-    if found and found.name in ITEMS:
-        low, high = ITEMS[found.name]
-        return f"{item_text(scenario)}. It has {low:,} to {high:,}."
-    return f"{item_text(scenario)}. {ITEM_RULES[found.kind] if found else ''}"
 
 
 def wrong_length(scenario: Scenario, found: Key) -> str:
@@ -331,20 +276,21 @@ def wrong_length(scenario: Scenario, found: Key) -> str:
 
 
 def out_of_range(scenario: Scenario) -> str:
-    key, value, title = scenario.key, scenario.value(scenario.key), scenario.title()
-    found = scenario.keys().get(key)
-    text = f"{key} of {title} is {value_text(value)}." if scenario.of else f"{key} is {value_text(value)}."
+    key, value, found = scenario.key, scenario.value(scenario.key), scenario.known
+    value = str(value).lower() if isinstance(value, bool) else value
+    text = f"{key}{f' of {scenario.title()}' if scenario.of else ''} is {shown(str(value))}."
     if key == "queue" and not scenario.of:
         return "A scenario has at least one queue."
     if key == "version" and not scenario.of and value == VERSION_3:
         return f"{text} It is read only for the word --v3."
     if scenario.item is not None:
-        return item_out_of_range(scenario)
+        rule = "It has {:,} to {:,}.".format(*ITEMS[key]) if found and key in ITEMS else \
+            ITEM_RULES[found.kind] if found else ""
+        return f"{item_text(scenario)}. {rule}"
     if found and (found.kind in LISTS or isinstance(value, list)):
         return wrong_length(scenario, found)
-    if key == "kind" and found and found.words:
-        return f"{text} A {value} is an actor of version {VERSION_3}." if value in ACTORS else \
-            f"{text}{range_text(found)}{nearest(value, found.words)}"
+    if key == "kind" and found and found.words and value in ACTORS:
+        return f"{text} A {value} is an actor of version {VERSION_3}."
     if key == "body":
         return f"{text} It has 1 byte at least for the first message, and 1,024 at most for the last."
     if key == "script":
@@ -368,23 +314,18 @@ def copies_of(scenario: Scenario, item: Any) -> list[str]:
         if isinstance(count, int) and 1 <= count <= COPIES_MOST else []
 
 
-def names_in(scenario: Scenario, of: str, number: int, item: Any) -> dict[str, str]:
-    """The names that a table takes, each with what has it."""
-    line, _ = line_of(scenario, (of, number, "name"))
-    copies = copies_of(scenario, item) if of == "actor" else []
-    return {**{name: f"A copy of the {item.get('kind')} in line {line}" for name in copies},
-            str(item.get("name")): f"The {of} in line {line}"}
-
-
-def tables_before(scenario: Scenario) -> Iterator[dict[str, str]]:
-    """What the names of the tables are before the place of the fault, table by table."""
+def taken_before(scenario: Scenario) -> Iterator[dict[str, str]]:
+    """The names that each table before the place of the fault takes, each with what has it."""
     for of in ("queue", "actor", "task"):
         items = scenario.found.get(of, [])
         for number, item in enumerate(items if isinstance(items, list) else []):
             if (of, number) == (scenario.of, scenario.number):
                 return
             if isinstance(item, dict):
-                yield names_in(scenario, of, number, item)
+                line, _ = line_of(scenario, (of, number, "name"))
+                copies = copies_of(scenario, item) if of == "actor" else []
+                yield {**{name: f"A copy of the {item.get('kind')} in line {line}" for name in copies},
+                       str(item.get("name")): f"The {of} in line {line}"}
 
 
 def bad_name(scenario: Scenario) -> str:
@@ -397,28 +338,21 @@ def bad_name(scenario: Scenario) -> str:
 
 def name_twice(scenario: Scenario) -> str:
     names = [str(scenario.value("name"))] if scenario.key == "name" else copies_of(scenario, scenario.table)
-    for taken in tables_before(scenario):
+    for taken in taken_before(scenario):
         for name in names:
             if name in taken:
                 return f"{taken[name]} has the name {shown(name)} already; queues, actors and tasks share their names."
     return f"The name {shown(names[0])} stands twice."
 
 
-def scalers_at(scenario: Scenario) -> list[str]:
-    """The names of the scalers at the home of an actor."""
-    return [item["name"] for item in scenario.found.get("actor", []) if isinstance(item, dict)
-            and item.get("kind") == "scaler" and item.get("queue") == scenario.value("queue")
-            and isinstance(item.get("name"), str)]
-
-
 def unknown_queue(scenario: Scenario) -> str:
-    value, key = str(scenario.value_here()), scenario.key
-    names = [item.get("name") for item in scenario.found.get("queue", []) if isinstance(item, dict)]
-    queues = [name for name in names if isinstance(name, str)]
-    title = scenario.title()
+    value, key, title = str(scenario.value_here()), scenario.key, scenario.title()
     if key == "scaler":
+        scalers = [item["name"] for item in scenario.at_home("actor")
+                   if item.get("kind") == "scaler" and isinstance(item.get("name"), str)]
         return f"{key} of {title} is {shown(value)}, and no actor with kind = \"scaler\" at its queue has this name." \
-               f"{nearest(value, scalers_at(scenario))}"
+               f"{nearest(value, scalers)}"
+    queues = names_of(scenario.found, "queue")
     if value not in queues:
         return f"{scenario.what_is_here()} is {shown(value)}, and there is no queue of this name." \
                f"{nearest(value, queues)}"
@@ -441,9 +375,8 @@ def too_many(scenario: Scenario) -> str:
         return "Actors with all their copies, and tasks, are at most 10,000 together."
     if scenario.record is not None:
         return "A script has at most 100,000 records after the first, and 16,777,216 bytes."
-    found = scenario.keys().get(scenario.key)
-    if found and found.kind in LISTS:
-        return wrong_length(scenario, found)
+    if scenario.known and scenario.known.kind in LISTS:
+        return wrong_length(scenario, scenario.known)
     return "A scenario has at most 1,000 queues." if scenario.key else "A scenario has at most 16,777,216 bytes."
 
 
@@ -496,7 +429,8 @@ def explained_script(scenario: Scenario, path: str, folder: str, line: str) -> s
         first: int | None = 1
     else:
         first = first_line_of_script(scenario)
-    at, record, reason = fault_of_script(text, number, scenario.is_fifo(), scenario.tasks())
+    at, record, reason = fault_of_script(text, number, scenario.is_fifo(),
+                                         [str(task.get("name")) for task in scenario.at_home("task")])
     row = line_of(scenario, scenario.path)[0] if first is None or at is None else first + at - 1
     quoted = f"  {shown(record)}\n" if record else ""
     return f"{path}:{row}: {line}\n{quoted}Record {number} of {scenario.title()}: {reason}\n"

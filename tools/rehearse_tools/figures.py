@@ -90,7 +90,7 @@ class Figures(NamedTuple):
         """The text of a column of a queue that no report has; empty if there is no number."""
         of = figured[queue]
         if column == COST:
-            return "" if self.price is None else cost_of(of["requests"], self.price)
+            return "" if self.price is None else decimal(of["requests"] * self.price / PRICED, 6)
         if column == BACKLOG_GONE:
             return "" if of[SINCE] is not None else text_of(of[GONE] or 0)
         return self.busy_of(queue, figured) if column == BUSY else text_of(of[OF_QUEUE[column]])
@@ -134,7 +134,3 @@ def bounds_of(of: Numbers) -> dict[str, Interval]:
 
     return {column: Interval(bound(f"{figure}_least_ms", 0), bound(f"{figure}_most_ms", math.inf))
             for column, figure in (*OF_REPORT.items(), *AGES.items())}
-
-
-def cost_of(requests: int, price: float) -> str:
-    return decimal(requests * price / PRICED, 6)

@@ -30,12 +30,10 @@ Examples:
 """
 from collections.abc import Sequence
 
-from .actors import Wiring
+from .actors import Wiring, add_options, check_options, tell_and_write
 from .console import Fault, Parser, refuse, shown
-from .found import Found, table
-from .making import add_options, check_options, tell_and_write
 from .plans import ARGUMENTS, Plan
-from .queues import NAME, Queue, json_in, queue_of, read_any, with_dead_letters
+from .queues import NAME, Found, Queue, json_in, queue_of, read_any, table, with_dead_letters
 from .templates import Template, yaml_in
 
 

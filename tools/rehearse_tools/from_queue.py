@@ -31,9 +31,9 @@ Examples:
 
 from collections.abc import Mapping, Sequence
 
+from .actors import add_options, check_options, tell_and_write
 from .console import Fault, Parser, refuse, shown
-from .making import add_options, check_options, tell_and_write
-from .queues import NAME, Queue, json_in, queue_of, read_any, with_dead_letters
+from .queues import NAME, json_in, queue_of, read_any, with_dead_letters
 
 
 def attributes_of(path: str) -> dict[str, str]:
@@ -63,16 +63,13 @@ def name_of(path: str, attributes: Mapping[str, str]) -> str:
     return name
 
 
-def queue_in(path: str, latency: int, has_depth: bool) -> Queue:
-    attributes = attributes_of(path)
-    return queue_of(name_of(path, attributes), attributes, latency, has_depth=has_depth)
-
-
 def main(words: Sequence[str]) -> int:
     parser = Parser(__doc__).take(flags=["--depth", "--v3"])
     parser.add_argument("files", nargs="+", metavar="FILE.json")
     add_options(parser)
     options = parser.parse_args(words)
     check_options(options, options.files)
-    queues = [queue_in(path, options.latency, options.depth) for path in options.files]
+    given = ((path, attributes_of(path)) for path in options.files)
+    queues = [queue_of(name_of(path, attributes), attributes, options.latency, has_depth=options.depth)
+              for path, attributes in given]
     return tell_and_write(with_dead_letters(queues, "file"), options, "their attributes", is_version_3=options.v3)

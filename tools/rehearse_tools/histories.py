@@ -227,19 +227,21 @@ def levels(queue: History, place: int, start: int, end: int) -> tuple[Any, Any]:
         times, numbers = times[is_last], numbers[is_last]
         is_change = numpy.append(True, numbers[1:] != numbers[:-1])
         times, numbers = times[is_change], numbers[is_change]
-    begin, stop = numpy.searchsorted(times, numpy.array([start, end]), side="right")
-    first, last = (numbers[place - 1] if place else 0 for place in (begin, stop))
-    return (numpy.concatenate((numpy.array([start], dtype=numpy.uint32), times[begin:stop],
-                               numpy.array([end], dtype=numpy.uint32))),
-            numpy.concatenate(([first], numbers[begin:stop], [last])).astype(numpy.int32))
+    return within(times, numpy.insert(numbers, 0, 0), start, end)
 
 
 def copies_levels(times: "array[int]", numbers: Sequence[int], start: int, end: int) -> tuple[Any, Any]:
     """The same of the copies that a scaler lets ask."""
-    changed, asking = moments(times), numpy.array(numbers, dtype=numpy.int32)
-    begin, stop = numpy.searchsorted(changed, numpy.array([start, end]), side="right")
-    return (numpy.concatenate(([start], changed[begin:stop], [end])).astype(numpy.uint32),
-            numpy.concatenate((asking[begin:stop + 1], asking[stop:stop + 1])))
+    return within(moments(times), numpy.array(numbers, dtype=numpy.int32), start, end)
+
+
+def within(times: Any, numbers: Any, start: int, end: int) -> tuple[Any, Any]:
+    """The moments of changes from a start to an end, which are the first and the last one, and the number from each on.
+    The first of the given numbers holds before the first moment."""
+    begin, stop = numpy.searchsorted(times, numpy.array([start, end]), side="right")
+    first, last = numpy.array([[start], [end]], dtype=numpy.uint32)
+    return (numpy.concatenate((first, times[begin:stop], last)),
+            numpy.concatenate((numbers[begin:stop + 1], numbers[stop:stop + 1])))
 
 
 class Course(NamedTuple):

@@ -6,7 +6,6 @@ from __future__ import annotations
 
 import os
 import shlex
-from typing import NamedTuple
 
 from .console import Fault, check_output, make_folder, path_of, print_text, read_bytes, refuse, shown, tell
 from .results import (WINDOW, Collection, Head, Rows, Share, checksum, checksum_of_scripts, collected, files_in,
@@ -17,14 +16,6 @@ from .variants import Sweep, Told
 
 # How many variants that are left are named.
 LEFT_MOST = 40
-
-
-class Jobs(NamedTuple):
-    """What jobs are asked for: the folder of their results, how many shares, None for one a variant, and whether only
-    those that are left."""
-    folder: str
-    shares: int | None
-    is_rest: bool
 
 
 def scripts_of(sweep: Sweep) -> dict[str, bytes]:
@@ -66,12 +57,12 @@ def variants_left(head: Head, folder: str) -> list[int]:
     return collection.left if collection.head else left_of(head.variants, ())
 
 
-def print_jobs(sweep: Sweep, head: Head, jobs: Jobs) -> None:
-    """Prints a command for each share, with `is_rest` only for those of which something is left."""
-    of = jobs.shares or head.variants
-    left = variants_left(head, jobs.folder) if jobs.is_rest else left_of(head.variants, ())
+def print_jobs(sweep: Sweep, head: Head, folder: str, of: int, is_rest: bool) -> None:
+    """Prints a command for each share out of `of`, with `is_rest` only for those of which something is left, by the
+    folder of the results."""
+    left = variants_left(head, folder) if is_rest else left_of(head.variants, ())
     for number in shares_left(left, of):
-        print_text(command(sweep, Share(number, of), jobs.folder, head.mark) + "\n")
+        print_text(command(sweep, Share(number, of), folder, head.mark) + "\n")
 
 
 def run_share(sweep: Sweep, head: Head, share: Share, folder: str, jobs: int) -> int:

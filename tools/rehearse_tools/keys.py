@@ -1,4 +1,4 @@
-"""The keys of a scenario with their kinds, ranges and defaults, as facts/keys.csv has them."""
+"""The keys of a scenario with their kinds, ranges and defaults, as facts/keys.csv and facts/kinds.csv have them."""
 from __future__ import annotations
 
 from collections.abc import Mapping, Sequence
@@ -6,18 +6,13 @@ from typing import NamedTuple
 
 from .fact_tables import rows_of
 
-NUMBER, TEXT, TRUTH, TABLES = "a whole number", "a text", "true or false", "a list of tables"
-NUMBERS, QUANTILES = "a list of whole numbers", "a list of pairs [permille, ms]"
-WEIGHTS, STRETCHES = "a list of pairs [group, weight]", "a list of pairs [from, to] in ms"
-STEPS = "a list of pairs [visible, copies]"
-# What may be one or a list.
-TEXT_OR_TEXTS, NUMBER_OR_NUMBERS = "a text or a list of texts", "a whole number or a list of whole numbers"
+# The kinds by what the table of keys calls them: a name, a queue's name and a file's name are texts.
+KINDS = {row["kind"]: row["told"] for row in rows_of("kinds")}
+NUMBER, TEXT, TRUTH, TABLES, NUMBERS, QUANTILES, WEIGHTS, STRETCHES, STEPS, TEXT_OR_TEXTS, NUMBER_OR_NUMBERS = map(
+    KINDS.__getitem__, ("number", "text", "truth", "tables", "numbers", "quantiles", "weights", "stretches", "steps",
+                        "queue or queues", "number or numbers"))
 REQUIRED = "required"
 STANDARD, FIFO = "standard", "FIFO"
-# The kinds by what the table of keys calls them: a name, a queue's name and a file's name are texts.
-KINDS = {"number": NUMBER, "truth": TRUTH, "tables": TABLES, "numbers": NUMBERS, "quantiles": QUANTILES,
-         "weights": WEIGHTS, "stretches": STRETCHES, "steps": STEPS, "text": TEXT, "name": TEXT, "queue": TEXT, "file": TEXT,
-         "queue or queues": TEXT_OR_TEXTS, "number or numbers": NUMBER_OR_NUMBERS}
 # The name of the rows that stand for the keys of a latency.
 LATENCY = "latency"
 
@@ -25,8 +20,8 @@ LATENCY = "latency"
 class Key(NamedTuple):
     """A key of a table: its kind, its range or allowed words, and its default (None if it may be absent without one).
     Also the only kind of queue that may have it, the keys beside one of which alone it may occur, the key that is its
-    least value, the first version that has it, and the keys in whose place it may be. The range of a text is in bytes, and
-    that of a list is how many items it has. Where a number may be a list, the range is that of each number."""
+    least value, the first version that has it, and the keys in whose place it may be. The range of a text is in bytes,
+    and that of a list is how many items it has. Where a number may be a list, the range is that of each number."""
 
     name: str
     kind: str
@@ -52,9 +47,9 @@ def default_of(text: str, kind: str) -> int | str | None:
 
 def key_of(row: Mapping[str, str]) -> Key:
     low, high = (int(row[name]) if row[name] else None for name in ("low", "high"))
-    return Key(row["name"], KINDS[row["kind"]], low, high, default_of(row["default"], row["kind"]),
-               tuple(row["words"].split()) or None, row["queues"] or None, tuple(row["beside"].split()), row["least"] or None,
-               int(row["since"]), tuple(row["replaces"].split()))
+    words, beside, replaces = (tuple(row[name].split()) for name in ("words", "beside", "replaces"))
+    return Key(row["name"], KINDS[row["kind"]], low, high, default_of(row["default"], row["kind"]), words or None,
+               row["queues"] or None, beside, row["least"] or None, int(row["since"]), replaces)
 
 
 def keys_in(table: str) -> list[Key]:

@@ -52,20 +52,27 @@ import math
 import operator
 import re
 import sys
-from collections import Counter, defaultdict, deque
 from argparse import Namespace
+from collections import Counter, defaultdict, deque
 from collections.abc import Iterable, Iterator, Sequence
+from fractions import Fraction
+from statistics import fmean
 from typing import NamedTuple
 
+from .arrivals import check_status, moment, points_of
 from .console import Fault, Parser, check_output, note, print_text, refuse, shown, write_text
 from .logs import NUMBER, Head, Log, What, tell_open
-from .measured import csv_of, differences_of, series_in, sums_of
-from .replay import (DELAYED, IN_FLIGHT, MESSAGE, NOWHERE, NUMBERED, VISIBLE, Checked, Places, UnknownKind,
-                     handlers_of, is_forward, replay, take_finals)
+from .queues import json_in, read_any
+from .replay import (DELAYED, IN_FLIGHT, MESSAGE, NOWHERE, NUMBERED, VISIBLE, Checked, Places, UnknownKind, handlers_of,
+                     is_forward, replay, take_finals)
 from .scenarios import names_of, scenario_at
+from .units import clock, decimal, moment_of, several
 from .units import NUMBER as MEASURE
-from .units import clock, moment_of
 
+# The statistics that are taken of what get-metric-statistics printed, the first one that is there.
+STATISTICS = ("Sum", "Maximum", "Average", "Minimum")
+# What a measured value may be.
+VALUES = (1 - 10 ** 15, 10 ** 15 - 1)
 COUNTS = ("NumberOfMessagesSent", "NumberOfMessagesReceived", "NumberOfMessagesDeleted", "NumberOfEmptyReceives")
 SENT, RECEIVED, DELETED, EMPTY = range(len(COUNTS))
 # The metrics of the numbers of messages in places.
@@ -237,6 +244,98 @@ class Metrics:
             yield [*(counts.get(period, 0) for counts in queue.counts), *levels.values(), age]
 
 
+class Series(NamedTuple):
+    """What was measured of a metric: its label, and pairs of a moment in milliseconds and a value."""
+    label: str
+    points: list[tuple[Fraction, float]]
+
+
+class Difference(NamedTuple):
+    """A period of a metric of a queue, as it was rehearsed and measured."""
+    queue: str
+    metric: str
+    period: int
+    rehearsed: int
+    measured: float
+
+
+def series_in(path: str) -> list[Series]:
+    """What `aws cloudwatch get-metric-data` or get-metric-statistics printed."""
+    found = json_in(read_any(path), path)
+    results = found.get("MetricDataResults") if isinstance(found, dict) else None
+    if isinstance(results, list) and all(isinstance(result, dict) for result in results):
+        for result in results:
+            check_status(result, path)
+        return [Series(f"{result.get('Label', '')} {result.get('Id', '')}",
+                       points_of(result.get("Timestamps"), result.get("Values"), path, VALUES, "value"))
+                for result in results]
+    points = found.get("Datapoints") if isinstance(found, dict) else None
+    if not isinstance(points, list) or not all(isinstance(point, dict) for point in points):
+        raise Fault(f"{path} is not what `aws cloudwatch get-metric-data` prints")
+    values = [next((point[name] for name in STATISTICS if name in point), None) for point in points]
+    times = [point.get("Timestamp") for point in points]
+    return [Series(str(found.get("Label", "")), points_of(times, values, path, VALUES, "value"))]
+
+
+def named_in(series: Series, names: Sequence[str], what: str) -> str:
+    """The name that a label has among its words; if there is only one name, no label needs to have it."""
+    found = [name for name in names if name in series.label.replace("/", " ").replace(".", " ").split()
+             or name in series.label.split()]
+    if len(found) == 1:
+        return found[0]
+    if not found and len(names) == 1:
+        return names[0]
+    raise Fault(f"the label {shown(series.label.strip())} names {len(found)} {what}, and has to name one")
+
+
+def periods_of(series: list[Series], period: int, origin: str | None) -> list[list[tuple[int, float]]]:
+    """For each series the numbers of its periods of `period` milliseconds, counted from an origin, and its values."""
+    times = [time for one in series for time, _ in one.points]
+    start = moment(origin, 1_000) if origin is not None else min(times, default=None)
+    if start is None:
+        raise Fault(f"{shown(origin)} is no time" if origin is not None else "nothing was measured")
+    for time in times:
+        if (time - start) % period:
+            raise Fault(f"a measured period begins {clock(int(abs(time - start)))} from the origin, which is no whole "
+                        f"number of periods of {period // 1_000} s")
+    return [[(int((time - start) // period), value) for time, value in sorted(one.points)] for one in series]
+
+
+def differences_of(metrics: Metrics, names: list[str], series: list[Series],
+                   origin: str | None) -> Iterator[Difference]:
+    """What was rehearsed and measured, period by period; what was measured at other times than the run is left out."""
+    rehearsed = {name: list(metrics.values(metrics.queues[name])) for name in names}
+    for one, points in zip(series, periods_of(series, metrics.period, origin)):
+        kind, queue = named_in(one, METRICS, "metrics"), named_in(one, names, "queues of the log")
+        inside = [(period, value) for period, value in points if 0 <= period < metrics.periods]
+        if len(inside) < len(points):
+            outside = len(points) - len(inside)
+            note(f"{queue} {kind}: {outside:,} of {len(points):,} measured periods are not in the run")
+        for period, value in inside:
+            yield Difference(queue, kind, period, rehearsed[queue][period][METRICS.index(kind)], value)
+
+
+def csv_of(differences: list[Difference], period: int) -> str:
+    rows = [f"{one.period * period // 1_000},{one.queue},{one.metric},{one.rehearsed},{decimal(one.measured)},"
+            f"{decimal(one.rehearsed - one.measured)}\n" for one in differences]
+    return "second,queue,metric,rehearsed,measured,difference\n" + "".join(rows)
+
+
+def sums_of(differences: list[Difference], period: int) -> Iterator[str]:
+    """A line for each metric of a queue: the means, and how far the rehearsal is from what was measured."""
+    groups: dict[tuple[str, str], list[Difference]] = {}
+    for one in differences:
+        groups.setdefault((one.queue, one.metric), []).append(one)
+    for (queue, metric), found in groups.items():
+        rehearsed, measured = fmean(one.rehearsed for one in found), fmean(one.measured for one in found)
+        apart = [abs(one.rehearsed - one.measured) for one in found]
+        worst = found[apart.index(max(apart))]
+        share = f" ({100 * (rehearsed - measured) / measured:+.0f} %)" if measured else ""
+        yield (f"{queue} {metric}: {several(len(found), 'period')}, mean {decimal(rehearsed)} "
+               f"rehearsed, {decimal(measured)} measured{share}; {decimal(fmean(apart))} apart on "
+               f"average, at most {decimal(max(apart))} at {clock(worst.period * period)}")
+
+
 class Alarm:
     """A metric, a bound, and how many periods in a row must end with the metric beyond the bound."""
 
@@ -316,18 +415,6 @@ def check_queues(metrics: Metrics, log: Log, names: Iterable[str]) -> None:
                         f"the run has no queue {shown(name)}")
 
 
-def tell_end(metrics: Metrics) -> None:
-    """Says on standard error that the end of the run is not known, if it is not."""
-    if not metrics.is_ended:
-        note(f"the last period ends with the last row, at {clock(metrics.last_row)}, as a log does not say when the "
-             "run ends (--scenario FILE.toml or --to TIME does)")
-
-
-def quiet_told(metrics: Metrics) -> str:
-    """That no alarm rings, and until when that is known."""
-    return f"no alarm rings up to the {'end' if metrics.is_ended else 'last row'} at {clock(metrics.end)}\n"
-
-
 def options_of(words: Sequence[str]) -> Namespace:
     parser = Parser(__doc__).take("--rest", "--scenario", "--to", "--against", "--origin", "--output",
                                   lists=["--queue", "--alarm"], numbers={"--period": 60})
@@ -353,10 +440,12 @@ def main(words: Sequence[str]) -> int:
     queues = [metrics.queues[name] for name in dict.fromkeys(options.queue or metrics.queues)]
     if len(queues) * metrics.periods > VALUES_MOST:
         raise Fault(f"{metrics.periods:,} periods of {len(queues):,} queues are too many: a longer --period is needed")
-    differences = list(differences_of(metrics, [queue.name for queue in queues], METRICS, series, options.origin)) \
+    differences = list(differences_of(metrics, [queue.name for queue in queues], series, options.origin)) \
         if options.against else []
     tell_open(log)
-    tell_end(metrics)
+    if not metrics.is_ended:
+        note(f"the last period ends with the last row, at {clock(metrics.last_row)}, as a log does not say when the "
+             "run ends (--scenario FILE.toml or --to TIME does)")
     if options.against:
         write_text(options.output, csv_of(differences, metrics.period))
         for line in sums_of(differences, metrics.period):
@@ -366,5 +455,6 @@ def main(words: Sequence[str]) -> int:
         write_csv(metrics, queues, options.output)
         return 0
     lines = list(ringing(alarms, metrics, queues))
-    write_text(options.output, "".join(lines) or quiet_told(metrics))
+    quiet = f"no alarm rings up to the {'end' if metrics.is_ended else 'last row'} at {clock(metrics.end)}\n"
+    write_text(options.output, "".join(lines) or quiet)
     return 1 if lines else 0

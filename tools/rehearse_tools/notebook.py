@@ -23,10 +23,9 @@ from typing import Any, NamedTuple, Union
 from . import sweep as tool
 from .console import ENDING, Fault, library, refuse
 from .logs import FINAL_HEADER, HEADERS, LOG_HEADER, Log, tell_open
-from .programs import program_of, version_words
+from .programs import program_of, ran, temporary_folder, version_words
 from .runs import first_line
 from .scenarios import Setting, scenario_at, text_of_value, varied, written
-from .starting import ran, temporary_folder
 from .summaries import Reading, read_runs, values_of
 from .units import window_of
 
@@ -119,7 +118,8 @@ def sweep(scenario: str, vary: Mapping[str, str | Iterable[Value]], as_lists: bo
     with file_of(scenario) as path, temporary_folder() as folder:
         output = os.path.join(folder, "rows.csv")
         words = [*(["--v3"] if v3 or preview else []),
-                 *(f"--vary={name}={values_word(values)}" for name, values in vary.items())]
+                 *(f"--vary={name}={values if isinstance(values, str) else ','.join(map(word_of, values))}"
+                   for name, values in vary.items())]
         with called_as("sweep"):
             status = tool.main([path, *words, *option_words(options), f"--output={output}"])
         if status == INTERRUPTED:
@@ -179,10 +179,6 @@ def word_of(value: Value) -> str:
         return text_of_value(value)
     text = str(value)
     return f'"{text}"' if isinstance(value, str) and ("," in text or ".." in text or text[:1] == "[") else text
-
-
-def values_word(values: str | Iterable[Value]) -> str:
-    return values if isinstance(values, str) else ",".join(map(word_of, values))
 
 
 def option_words(options: Mapping[str, Words]) -> list[str]:

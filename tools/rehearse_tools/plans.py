@@ -14,8 +14,8 @@ from typing import Any
 
 from .actors import Mapping, Subscription, Wiring
 from .console import Fault
-from .found import STEPS_MOST, Found, last_name, named, number_in, table, tables, truth_in
-from .queues import NUMBERS
+from .queues import (NUMBERS, STEPS_MOST, Found, last_name, named, number_in, table, tables,
+                     truth_in)
 
 # The arguments of aws_sqs_queue, by SQS's names of the attributes.
 ARGUMENTS = {

@@ -35,8 +35,8 @@ from fractions import Fraction
 from statistics import NormalDist
 from typing import NamedTuple
 
+from .arrivals import PLAIN_NUMBER, column_of, records_in
 from .console import Fault, Parser, print_text, refuse, shown
-from .records import PLAIN_NUMBER, column_of, records_in
 from .scenarios import text_of_value
 
 MOST, PERMILLES = 86_400_000, 1_000

@@ -42,15 +42,13 @@ from .figures import COST, Figures, text_of
 from .histories import (PLACES, Course, Histories, History, ages_are_spread, ages_in, copies_levels, counts_in,
                         course_of, edges, levels, oldest)
 from .logs import FIGURE_HEADER, Log
-from .overview import COLUMNS as OVERVIEW
-from .overview import cells_of
-from .programs import TOP, program_of, reading_words
+from .programs import TOP, program_of, ran, reading_words
 from .requirements import Failure, Requirement
 from .results import checksum
 from .runs import Counting, Reported, as_wanted, extra_of, reported
-from .scenarios import consumers_of, names_of, parsed, scripts_in, ways_of, written
-from .starting import ran
-from .summaries import LINES, Reading, Run, cell_of, is_told, lost_in, lost_told, note_of, read_runs
+from .scenarios import consumers_of, items_of, names_of, parsed, scripts_in, ways_of, written
+from .summaries import (LINES, OVERVIEW, Reading, Run, cell_of, cells_of, is_told, lost_in, lost_told, note_of,
+                        read_runs)
 from .units import duration, several, window_of
 
 QUEUES_MOST = 20
@@ -123,9 +121,10 @@ def summary_html(values: dict[str, Any]) -> str:
     return f"<table>{rows_of_table(rows)}</table>\n"
 
 
-def overview_html(queues: dict[str, dict[str, Any]], drawn: list[str], dead_letters: set[str]) -> str:
+def overview_html(queues: dict[str, dict[str, Any]], drawn: list[str], scenario: Mapping[str, Any]) -> str:
     """A table of all queues, a line each, with a link to the part of those that are drawn below."""
-    titles = "".join(f"<th>{escape(title)}</th>" for title in ("queue", *(column.title for column in OVERVIEW), ""))
+    dead_letters = {queue.get("dead_letter") for queue in items_of(scenario, "queue")}
+    titles = "".join(f"<th>{escape(title)}</th>" for title in ("queue", *OVERVIEW.values(), ""))
     lines = ""
     for name, values in queues.items():
         link = f'<a href="#{section_of(drawn.index(name) + 1)}">{escape(name)}</a>' if name in drawn else escape(name)
@@ -142,11 +141,6 @@ def section_of(number: int) -> str:
     return f"section-{number}"
 
 
-def dead_letters_of(scenario: dict[str, Any]) -> set[str]:
-    """The queues of a scenario that take dead letters of others."""
-    return {queue["dead_letter"] for queue in scenario.get("queue", []) if "dead_letter" in queue}
-
-
 def origin_of(text: str, scenario: dict[str, Any], folder: str) -> str:
     """By which version the page was made and when, and the checksums of what was rehearsed."""
     seconds = os.environ.get("SOURCE_DATE_EPOCH", "")
@@ -159,25 +153,9 @@ def origin_of(text: str, scenario: dict[str, Any], folder: str) -> str:
     return f"sqs_rehearse {version}, {date}. SHA-256 of the {', of '.join(f'{name} {found}' for name, found in sums)}."
 
 
-def lost_html(run: Run) -> str:
-    """The line at the top if messages were lost."""
-    lost = lost_told(lost_in(run))
-    return f'<p class="fails">Lost by expiry: {escape(lost)}</p>\n' if lost else ""
-
-
 def numbers_of(array: Any, size: int = 1) -> list[float | None]:
     """The numbers of an array for JSON, in a unit; null for each that is missing."""
     return [None if number != number else round(float(number) / size, 6) for number in array]
-
-
-def unit_of_ages(ages: Any) -> tuple[str, int]:
-    return unit_of(max((age for age in numbers_of(ages) if age is not None), default=0))
-
-
-def in_steps(bounds: Any, ages: Any, size: int) -> tuple[list[Any], list[float | None]]:
-    """The corners of a line that has the age of a bin from its beginning to its end, with gaps for bins without one."""
-    times = [moment for pair in zip(bounds[:-1], bounds[1:]) for moment in pair]
-    return times, [age for age in numbers_of(ages, size) for _ in range(2)]
 
 
 def line(times: Any, numbers: list[float | None], name: str, size: int, **more: Any) -> dict[str, Any]:
@@ -227,9 +205,12 @@ def panels_of(queue: History, start: int, end: int, size: int, requirements: Ite
         times, numbers = copies_levels(*told, start, end)
         copies.append(line(times, numbers_of(numbers), "copies", size, shape="hv"))
     ranks = dict(zip(("middle", "95 %", "greatest"), ages_in(queue, bounds)))
-    unit, unit_size = unit_of_ages(ranks["greatest"])
+    unit, unit_size = unit_of(max((age for age in numbers_of(ranks["greatest"]) if age is not None), default=0))
+    # from the beginning of a bin to its end, with gaps for bins without an age
+    corners = [moment for pair in zip(bounds[:-1], bounds[1:]) for moment in pair]
     for name, found in reversed(ranks.items()):
-        ages.append(line(*in_steps(bounds, found, unit_size), name, size, width=2.5))
+        steps = [age for age in numbers_of(found, unit_size) for _ in range(2)]
+        ages.append(line(corners, steps, name, size, width=2.5))
     course = oldest(queue, start, end)
     oldest_unit, oldest_size = unit_of(course.greatest())
     times, oldest_ages = course.corners()
@@ -284,12 +265,6 @@ def figure_html(number: int, queue: History, start: int, end: int, requirements:
            '{"responsive": true, "scrollZoom": true, "displaylogo": false});</script>\n'
 
 
-def library_packed() -> str:
-    """The script of plotly, which is a fourth as long when it is packed."""
-    script = library("plotly.offline", "python3-plotly").get_plotlyjs().encode("utf-8")
-    return base64.b64encode(gzip.compress(script, PACKING, mtime=0)).decode("ascii")
-
-
 def settings_html(scenario: Mapping[str, Any]) -> str:
     """The settings of the scenario, a row for each table; a script's text is left to the whole scenario below."""
     rows = [(("", key), ("", scenario.get(key, default))) for key, default in TOP_KEYS.items()]
@@ -298,11 +273,6 @@ def settings_html(scenario: Mapping[str, Any]) -> str:
             told = ", ".join(f"{key} = {value}" for key, value in item.items() if key not in ("name", "calls"))
             rows.append((("", f"{of} {item.get('name')}"), ("", told)))
     return rows_of_table(rows)
-
-
-def program_words(options: Namespace) -> list[str]:
-    """The program's options: how the scenario is read, and the figures of what is counted."""
-    return [*reading_words(options), *Figures(options.first or 0, 0).words()]
 
 
 def report_in(run: Run, figures: Figures, counting: Counting) -> Reported:
@@ -325,14 +295,15 @@ def page(options: Namespace, words: Sequence[str], text: str, path: str) -> tupl
     extra = extra_of(requirement.column for requirement in requirements)
     figures = extra.figures(first, end, consumers_of(scenario))
     found = judged(requirements, report_in(run, figures, Counting(first, end, extra.with_doors, ways_of(scenario))))
-    body = lost_html(run) + requirements_html(found)
+    lost = lost_told(lost_in(run))
+    body = (f'<p class="fails">Lost by expiry: {escape(lost)}</p>\n' if lost else "") + requirements_html(found)
     if run.row_count:
         histories = Histories(Log(path))
         queues, left_out = histories.chosen(options.queue, QUEUES_MOST)
         start = max(histories.first, options.first or 0)
         end = max(histories.end_of_traffic(), start + 1)
         values = {name: queue.values() for name, queue in run.queues.items()}
-        body += overview_html(values, [queue.name for queue in queues], dead_letters_of(scenario))
+        body += overview_html(values, [queue.name for queue in queues], scenario)
         if end < histories.last:
             body += f"<p>Pictures end with the traffic, at {duration(end)}.</p>\n"
         for number, queue in enumerate(queues, 1):
@@ -344,10 +315,13 @@ def page(options: Namespace, words: Sequence[str], text: str, path: str) -> tupl
     ends = "".join(f", {word} {duration(at)}" for word, at in (("counted from", options.first),
                                                                ("ended at", options.last)) if at is not None)
     intro = f"{os.path.basename(options.scenario)}, seed {scenario.get('seed', 0)}: {told}{ends}."
+    # the script of plotly is a fourth as long when it is packed
+    plotly = gzip.compress(library("plotly.offline", "python3-plotly").get_plotlyjs().encode("utf-8"), PACKING, mtime=0)
     return read_text(PAGE).format(
         title=escape(options.title or f"Rehearsal of {os.path.basename(options.scenario)}"), intro=escape(intro),
         origin=escape(origin_of(text, scenario, options.scripts)),
-        library=library_packed(), body=body, settings=settings_html(scenario), scenario=escape(text),
+        library=base64.b64encode(plotly).decode("ascii"), body=body,
+        settings=settings_html(scenario), scenario=escape(text),
         command=escape(f"{command_of('report')} {shlex.join(words)}")), found
 
 
@@ -404,7 +378,8 @@ def main(words: Sequence[str]) -> int:
     check_output(options.output, [options.scenario, program, *scripts_of(text, options)])
     # a file without a name is gone with the tool, whatever ends it
     with tempfile.TemporaryFile() as log:
-        refusal = run_program(program, cut_text, program_words(options), log)
+        words_of_run = [*reading_words(options), *Figures(options.first or 0, 0).words()]
+        refusal = run_program(program, cut_text, words_of_run, log)
         if refusal:
             tell(f"{shown(refusal)}; {command_of('explain')} tells more")
             return 1

@@ -70,7 +70,9 @@ class Requirement:
             raise Fault(f"{shown(text)}: there is no column {self.column}; there are {', '.join(ALL_COLUMNS)}")
         found = quantity(match[4].removesuffix("%") if self.column == BUSY else match[4])
         if found is None or found[1] and not self.is_time:
-            raise Fault(f"{shown(text)}: {shown(match[4])} is not {self.wanted}")
+            wanted = "a share, as 90%" if self.column == BUSY else \
+                f"a number {'with a unit, as 60s' if self.is_time else 'without a unit'}"
+            raise Fault(f"{shown(text)}: {shown(match[4])} is not {wanted}")
         self.bound, self.holds = found[0], self.COMPARISONS[match[3]]
 
     @property
@@ -81,13 +83,6 @@ class Requirement:
     @property
     def is_time(self) -> bool:
         return self.is_age or self.column in (*CENSORED, BACKLOG_GONE, *MOMENTS)
-
-    @property
-    def wanted(self) -> str:
-        """What its column is compared with, in words."""
-        if self.column == BUSY:
-            return "a share, as 90%"
-        return "a number with a unit, as 60s" if self.is_time else "a number without a unit"
 
     def is_of(self, name: str) -> bool:
         return fnmatch.fnmatchcase(name, self.queue)

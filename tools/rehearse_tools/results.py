@@ -120,9 +120,13 @@ def checksum_of_scripts(scripts: Mapping[str, bytes]) -> str:
 
 def share_of(text: str) -> Share:
     """The share that is written as 3/50."""
-    match = SHARE.fullmatch(text)
+    return share_in(SHARE.fullmatch(text), f"{shown(text)} is no share, as 3/50 for the third of fifty")
+
+
+def share_in(match: re.Match[str] | None, fault: str) -> Share:
+    """The share whose number and count are the first groups of a match; a fault if there is none."""
     if not match or int(match[1]) > int(match[2]):
-        raise Fault(f"{shown(text)} is no share, as 3/50 for the third of fifty")
+        raise Fault(fault)
     return Share(int(match[1]), int(match[2]))
 
 
@@ -170,10 +174,11 @@ def read_result(name: str, text: str | Fault) -> Result:
     """The result in a file of this name, or a fault that says in one line what is wrong with it."""
     if isinstance(text, Fault):
         raise text
-    share, mark = share_and_mark(name)
+    match = NAME.fullmatch(name)
+    share = share_in(match, f"{shown(name)} is no name of a sweep's result, as 03-of-50-3fa9c2d1.csv")
     records = whole_records(name, text)
     head, place = head_in(name, records)
-    if head.mark != mark:
+    if match and head.mark != match[3]:
         raise Fault(f"{name} is foreign: it holds results of the sweep {head.mark}, and not of the one in its name")
     columns, rows = records[place], records[place + 1:]
     if columns[0] != "variant" or columns[1:len(head.settings) + 3] != [*head.names(), "failed", "queue"]:
@@ -184,14 +189,6 @@ def read_result(name: str, text: str | Fault) -> Result:
     for variant, of_variant in found.items():
         check_queues(name, variant, of_variant, head)
     return Result(name, head, columns[1:], found)
-
-
-def share_and_mark(name: str) -> tuple[Share, str]:
-    """What the name of a result file says."""
-    match = NAME.fullmatch(name)
-    if not match or int(match[1]) > int(match[2]):
-        raise Fault(f"{shown(name)} is no name of a sweep's result, as 03-of-50-3fa9c2d1.csv")
-    return Share(int(match[1]), int(match[2])), match[3]
 
 
 def whole_records(name: str, text: str) -> list[list[str]]:

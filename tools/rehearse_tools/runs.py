@@ -26,7 +26,7 @@ from .logs import FIGURE_HEADER, FINAL_HEADER, REFUSALS, REPORT_HEADER, Block, H
 from .logs import Take as TakeRow
 from .logs import counted_columns
 from .replay import Replay, handlers_of, replay
-from .starting import started
+from .programs import started
 from .statistics import Interval, censored_percentile
 
 COLUMNS = REPORT_HEADER[2:]

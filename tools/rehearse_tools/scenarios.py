@@ -183,7 +183,8 @@ class Setting:
         others after all actors. So the number of every other actor, and with it what is random of it, stays as it
         is."""
         if not re.fullmatch("[0-9]{1,5}", word) or not 1 <= int(word) <= COPIES_MOST:
-            raise Fault(f"{self.path} of {shown_word(word)} is no number of copies, which has 1 to {COPIES_MOST}")
+            shown = word if len(word) < 30 else word[:30] + ".."
+            raise Fault(f"{self.path} of {shown} is no number of copies, which has 1 to {COPIES_MOST}")
         if self.name not in names_of(scenario, "actor"):
             raise Fault(f"the scenario has no table [[actor]] with the name {self.name}")
         actors, others = [], []
@@ -193,10 +194,6 @@ class Setting:
                 actor = {**actor, "name": f"{self.name}-1"}
             actors.append(actor)
         scenario["actor"] = actors + others
-
-
-def shown_word(word: str) -> str:
-    return word if len(word) < 30 else word[:30] + ".."
 
 
 def varied(scenario: dict[str, Any], words: Mapping[Setting, str]) -> dict[str, Any]:

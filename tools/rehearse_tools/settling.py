@@ -3,15 +3,15 @@ command."""
 from __future__ import annotations
 
 from collections import Counter
-from collections.abc import Iterable, Sequence
+from collections.abc import Sequence
 from functools import partial
 from typing import Any, NamedTuple, TextIO
 
+from .decisions import Groups
 from .drawing import ALARM, CAPTION, COLOURS, FOOT, GREY, RIGHT, Sheet, head_of, ticks_of
 from .logs import REFUSALS, What
 from .replay import Replay, handlers_of
 from .runs import COLUMNS, Output
-from .searches import Groups
 from .statistics import mean_of, moving_means, settled_from
 from .units import exact
 from .variants import horizon_of
@@ -84,16 +84,13 @@ def series_of(stream: TextIO, horizon: int) -> dict[str, Series]:
     return {name: Series(queue.areas, queue.entered) for name, queue in queues.items()}
 
 
-def is_steady(entered: Sequence[int]) -> bool:
-    """Whether about as many messages come in in each tenth: a burst is no run that could settle."""
-    mean = mean_of(entered)
-    return mean > 0 and min(entered) >= LEAST_SHARE * mean and max(entered) <= GREATEST_SHARE * mean
-
-
 def advice_of(queue: str, runs: Sequence[Series], horizon: int) -> Advice | None:
     """From when on to count, by MSER-5 over the mean of some runs; None if all may count, or if that can't be
     decided."""
-    if not is_steady([sum(numbers) for numbers in zip(*(run.entered for run in runs))]):
+    entered = [sum(numbers) for numbers in zip(*(run.entered for run in runs))]
+    # a burst is no run that could settle: about as many messages have to come in in each tenth
+    mean = mean_of(entered)
+    if not mean or not all(LEAST_SHARE * mean <= number <= GREATEST_SHARE * mean for number in entered):
         return None
     means = [mean_of(numbers) for numbers in zip(*(run.depths for run in runs))]
     cut = settled_from(means)
@@ -103,12 +100,6 @@ def advice_of(queue: str, runs: Sequence[Series], horizon: int) -> Advice | None
     if abs(whole - rest) < PART_THAT_MATTERS * rest:
         return None
     return Advice(queue, -(-cut * (horizon + 1) // PARTS), whole, rest)
-
-
-def row_count_of(report: Iterable[Sequence[str]]) -> int:
-    """About how many rows the log has, by the records of a run's report."""
-    happened = COLUMNS.index(REFUSALS[0])
-    return sum(int(number) for _, *numbers in report for number in numbers[:happened])
 
 
 def deepest(groups: Groups) -> str:
@@ -142,7 +133,8 @@ def looked_at(groups: Groups) -> Looked | None:
     for number in groups.numbers[key][:RUNS_MOST]:
         rows = groups.rows.get(number)
         if rows and rows[0][-width]:
-            left -= row_count_of([row[-width:] for row in rows])
+            # about as many rows as the log has, by the columns of the report that count what happened
+            left -= sum(int(number) for row in rows for number in row[1 - width:][:COLUMNS.index(REFUSALS[0])])
             numbers += [number] if left >= 0 else []
     scenarios = [sweep.varied(sweep.settings.words(number)) for number in numbers]
     horizons = {horizon_of(scenario) for scenario in scenarios}

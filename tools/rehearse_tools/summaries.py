@@ -9,12 +9,12 @@ from typing import Any, NamedTuple, Optional
 
 from .console import Fault, refuse, shown
 from .doors import Doors, Left
+from .fact_tables import rows_of
 from .figures import Numbers, figures_in, summed
-from .log_figures import Names, figures_of_log
 from .logs import FIGURE_HEADER, FIGURES_OF, NAME, PLACES, REFUSALS, Head, Log, Take, What, check_number
 from .replay import BadRow, Replay, UnknownKind, copies_in, handlers_of, replay
 from .units import duration, several
-from .whole_logs import WholeLog
+from .whole_logs import Names, WholeLog, figures_of_log
 
 CAME_IN = ("sent", "came_by_forward", "came_by_redrive", "came_by_move")
 WENT_OUT = ("deleted", "dead_lettered", "moved_away", "lost_by_expiry")
@@ -183,8 +183,9 @@ class Queue:
             **{key: figures[key] for key in ("moved_age_p50_ms", "moved_age_p95_ms", "depth_greatest")},
             "depth_greatest_at_ms": figures["depth_greatest_at_ms"] if figures["depth_greatest"] else None,
             **{key: figures[key] for key in ("backlog_gone_at_ms", "backlog_since_ms")},
-            "backlog_over": self.run.reading.backlog, "requests": figures["requests"], "copies_greatest": self.copies_greatest,
-            "dead_lettered_to": sorted(self.dead_lettered_to), "moved_to": sorted(self.moved_to)}
+            "backlog_over": self.run.reading.backlog, "requests": figures["requests"],
+            "copies_greatest": self.copies_greatest, "dead_lettered_to": sorted(self.dead_lettered_to),
+            "moved_to": sorted(self.moved_to)}
 
 
 HANDLERS = handlers_of(Queue, is_strict=True)
@@ -199,11 +200,6 @@ class Reading(NamedTuple):
     with_doors: bool = False
     backlog: int = BACKLOG
     has_figures: bool = False
-
-    @property
-    def reads_rows(self) -> bool:
-        """Whether figures do not say all that is wanted."""
-        return self.first is not None or self.last is not None or self.with_doors
 
     def words(self) -> list[str]:
         """The program's options for these figures."""
@@ -383,7 +379,8 @@ def runs_unread(logs: Sequence[Log], reading: Reading) -> list[Run]:
         else:
             runs.append(Run(log, reading))
             runs[-1].find_rest()
-    refuse(reading.reads_rows or len(runs) > 2 or any(run.log.is_open for run in runs), "rows have to be read")
+    is_cut = reading.first is not None or reading.last is not None or any(run.log.is_open for run in runs)
+    refuse(is_cut or reading.with_doors or len(runs) > 2, "rows have to be read")
     for run in runs:
         run.take_whole()
     return runs
@@ -442,76 +439,23 @@ def lost_told(lost: Mapping[str, int]) -> str:
     return f"{sum(lost.values()):,} in {named(lost)}" if lost else ""
 
 
-def grouped(number: int) -> str:
-    return f"{number:,}"
-
-
-def hundredths(number: float) -> str:
-    return f"{number:,.2f}"
-
-
 class Line(NamedTuple):
     """A line of a queue: the key of its value, its label, the function that writes it, and whether it is shown even if
     it is zero."""
-
     key: str
     label: str
     written: Callable[[Any], str]
     always: bool
 
 
-LINES = (
-    Line("sent", "sent", grouped, True),
-    Line("repeated_sends", "sent again (repeats)", grouped, False),
-    Line("came_by_forward", "came by a forward", grouped, False),
-    Line("came_by_redrive", "came as dead letters", grouped, False),
-    Line("came_by_move", "came by a move task", grouped, False),
-    Line("deleted", "deleted", grouped, True),
-    Line("handled_once", "handled once", grouped, True),
-    Line("handled_more_than_once", "handled more than once", grouped, True),
-    Line("handled_yet_not_deleted", "handled, yet not deleted", grouped, False),
-    Line("tries_mean", "tries a message, mean", hundredths, True),
-    Line("tries_greatest", "tries a message, greatest", grouped, True),
-    Line("failed_services", "services that failed", grouped, False),
-    Line("forwarded", "forwarded", grouped, False),
-    Line("moved_away", "moved away by a task", grouped, False),
-    Line("dead_lettered", "dead-lettered", grouped, True),
-    Line("lost_by_expiry", "lost by expiry", grouped, True),
-    Line("left", "left at the end", grouped, True),
-    Line("left_visible", "  visible", grouped, False),
-    Line("left_in_flight", "  in flight", grouped, False),
-    Line("left_delayed", "  delayed", grouped, False),
-    Line("left_visible_or_delayed", "  visible or delayed", grouped, False),
-    Line("on_their_way_here", "on their way here", grouped, False),
-    Line("age_p50_ms", "age when deleted, 50 %", duration, True),
-    Line("age_p95_ms", "age when deleted, 95 %", duration, True),
-    Line("age_p99_ms", "age when deleted, 99 %", duration, True),
-    Line("age_greatest_ms", "age when deleted, greatest", duration, True),
-    Line("new_age_p50_ms", "age of new ones, 50 %", duration, True),
-    Line("new_age_p95_ms", "age of new ones, 95 %", duration, True),
-    Line("moved_age_p50_ms", "age of moved ones, 50 %", duration, True),
-    Line("moved_age_p95_ms", "age of moved ones, 95 %", duration, True),
-    Line("door_age_p50_ms", "age since first send, 50 %", duration, True),
-    Line("door_age_p95_ms", "age since first send, 95 %", duration, True),
-    Line("door_age_max_ms", "age since first send, most", duration, True),
-    Line("door_age_open", "  first send open of", grouped, False),
-    Line("door_may_come", "  may still come", grouped, False),
-    Line("depth_greatest", "greatest depth", grouped, True),
-    Line("depth_greatest_at_ms", "greatest depth at", duration, True),
-    Line("backlog_gone_at_ms", "backlog gone at", duration, True),
-    Line("copies_greatest", "copies that ask, greatest", grouped, False),
-    Line("requests", "API requests", grouped, True),
-    Line("SendMessage", "  SendMessage", grouped, True),
-    Line("ReceiveMessage", "  ReceiveMessage", grouped, True),
-    Line("empty_receives", "    of them empty", grouped, True),
-    Line("DeleteMessage", "  DeleteMessage", grouped, True),
-    Line("ChangeMessageVisibility", "  ChangeMessageVisibility", grouped, True),
-    Line("StartMessageMoveTask", "  StartMessageMoveTask", grouped, False),
-    Line("CancelMessageMoveTask", "  CancelMessageMoveTask", grouped, False),
-    Line("refused_requests", "  of all, refused", grouped, False))
+WRITERS: dict[str, Callable[[Any], str]] = {"grouped": "{:,}".format, "hundredths": "{:,.2f}".format,
+                                            "duration": duration}
+LINES = tuple(Line(row["key"], row["label"], WRITERS[row["written"]], bool(row["always"])) for row in rows_of("lines"))
+SHARES = tuple(row["key"] for row in rows_of("lines") if row["share"])
+# The columns of the table of all queues: the keys of their values, with their titles.
+OVERVIEW = {"came_in": "came in", "deleted": "deleted", "dead_lettered": "dead-lettered", "lost_by_expiry": "lost",
+            "left": "left", "age_p50_ms": "age 50 %", "age_p95_ms": "age 95 %", "depth_greatest": "depth"}
 
-SHARES = ("deleted", "handled_once", "handled_more_than_once", "handled_yet_not_deleted", "moved_away", "dead_lettered",
-          "lost_by_expiry", "left")
 
 
 def named(queues: Collection[str]) -> str:
@@ -576,3 +520,17 @@ def is_told(line: Line, sides: Sides) -> bool:
     if line.key.startswith(("age_", "tries_", "door_age_p", "door_age_m", "new_age_", "moved_age_")):
         return any(values[line.key] is not None for values in there)
     return line.always or any(values[line.key] for values in there)
+
+
+def cells_of(values: Values) -> list[str]:
+    """The numbers of a queue in the table of all, as texts; - if there is none."""
+    return ["-" if values[key] is None else WRITERS["duration" if key.endswith("_ms") else "grouped"](values[key])
+            for key in OVERVIEW]
+
+
+def overview_of(queues: Mapping[str, Values]) -> list[str]:
+    """The lines of that table: the titles, then the queues by name, with columns as wide as their texts."""
+    rows = [["", *OVERVIEW.values()], *([name, *cells_of(values)] for name, values in queues.items())]
+    widths = [max(map(len, column)) for column in zip(*rows)]
+    return ["  ".join([f"{row[0]:{widths[0]}}", *(f"{cell:>{width}}" for cell, width in zip(row[1:], widths[1:]))])
+            for row in rows]

@@ -72,9 +72,8 @@ from collections.abc import Mapping, Sequence
 
 from .console import BOLD, PLAIN, RED, Parser, is_terminal, print_text, refuse
 from .logs import open_told
-from .overview import lines_of
 from .summaries import (BACKLOG, LINES, Reading, Run, Sides, Values, cell_of, cell_of_difference, difference,
-                        is_told, lost_in, lost_told, note_of, read_runs, values_of)
+                        is_told, lost_in, lost_told, note_of, overview_of, read_runs, values_of)
 from .units import duration, window_of
 
 # The width of what stands before the numbers, that of the numbers of one run, and those of two with their difference.
@@ -124,20 +123,15 @@ def text_of_queue(name: str, sides: Sides, style: Style) -> str:
     return "".join(f"{line}\n" for line in lines)
 
 
-def window_told(run: Run) -> str:
-    """The time in which the rows of a run are counted, if it does not count all."""
-    ends = (("from", run.first), ("to", run.last))
-    return " ".join(f"{word} {duration(at)}" for word, at in ends if at is not None)
-
-
 def text_of_run(title: str, run: Run, style: Style) -> str:
     """The lines on a run before its queues."""
     last = "no rows" if run.last_at is None else f"{run.row_count:,} rows, the last at {duration(run.last_at)}"
     lines = [f"{title}: {last}"]
     if run.log.is_open:
         lines.insert(0, open_told(run.log))
-    if run.first is not None or run.last is not None:
-        lines.append(f"   counted {window_told(run)}")
+    window = [f"{word} {duration(at)}" for word, at in (("from", run.first), ("to", run.last)) if at is not None]
+    if window:
+        lines.append(f"   counted {' '.join(window)}")
     if not run.has_report:
         lines.append("   it is not told which of the messages left are delayed")
     lost = lost_in(run)
@@ -149,7 +143,7 @@ def text_of_run(title: str, run: Run, style: Style) -> str:
 def table_of(queues: Mapping[str, Sides], style: Style) -> str:
     """A line for each queue of one run; marked are those that lost messages."""
     sides = {name: values for name, (values,) in queues.items() if values}
-    titles, *lines = lines_of(sides)
+    titles, *lines = overview_of(sides)
     marked = [style.alarm(f"{line}  !!") if values["lost_by_expiry"] else line
               for line, values in zip(lines, sides.values())]
     return "".join(f"{line}\n" for line in [titles, *marked])
@@ -179,10 +173,6 @@ def json_of(runs: Sequence[Run], queues: Mapping[str, Sides]) -> str:
     return json.dumps({"runs": shares, "differences": differences}, indent=2) + "\n"
 
 
-def is_coloured() -> bool:
-    return is_terminal(sys.stdout) and os.environ.get("TERM") != "dumb" and not os.environ.get("NO_COLOR")
-
-
 def main(words: Sequence[str]) -> int:
     parser = Parser(__doc__).take("--rest", "--from", "--to", flags=["--door", "--json"], lists=["--queue"],
                                   numbers={"--backlog": BACKLOG})
@@ -194,5 +184,6 @@ def main(words: Sequence[str]) -> int:
     reading = Reading(*window_of(options.first, options.last), options.door, options.backlog)
     runs = read_runs(files, reading)
     queues = values_of(runs, options.queue, options.json)
-    print_text(json_of(runs, queues) if options.json else text_of(runs, queues, Style(is_coloured())))
+    is_coloured = is_terminal(sys.stdout) and os.environ.get("TERM") != "dumb" and not os.environ.get("NO_COLOR")
+    print_text(json_of(runs, queues) if options.json else text_of(runs, queues, Style(is_coloured)))
     return 0

@@ -95,26 +95,24 @@ from __future__ import annotations
 import argparse
 import os
 import re
-from collections.abc import Callable, Iterable, Iterator, Sequence
+from collections.abc import Iterable, Iterator, Sequence
+from functools import partial
 from textwrap import fill
 
 from .clusters import PROGRAM, SCRIPTS, Cluster
 from .console import (Fault, Parser, check_library, check_output, csv_text, print_text, refuse, shown, tell,
                       write_bytes, write_text)
-from .decisions import Requirements
+from .decisions import Groups, Requirements, check_ascending, least, text_of, until
 from .drawing import FORMATS, bytes_of
 from .figures import COLUMNS as OF_FIGURES
 from .figures import COST, WINDOW
-from .jobs import Jobs, collect, head_of, print_jobs, run_share, scripts_of
-from .junit import text_of
-from .programs import named_program, program_of
+from .jobs import collect, head_of, print_jobs, run_share, scripts_of
+from .programs import named_program, program_of, temporary_folder
 from .runs import ALL_COLUMNS, COLUMNS, EXTRA_COLUMNS, Extra, columns_in, extra_of
 from .results import paths_of, share_of
 from .scenarios import names_of
-from .searches import Groups, check_ascending, least, until
-from .starting import temporary_folder
 from .settling import advise, looked_at, picture_of
-from .tables import Table, against, folded, selected, table_text
+from .tables import Table, against, folded, table_text
 from .units import moment_of, window_of
 from .variants import Given, Settings, Sweep, Told, Window
 
@@ -124,9 +122,10 @@ PRICE_MOST = 1_000_000
 PERCENT = re.compile(r"([0-9]{1,3}(?:\.[0-9]{1,3})?)\s*%")
 # The column of the scenarios if there are two.
 SCENARIO = "scenario"
-# What goes with runs alone, what with a scenario, and the modes that run none or collect.
+# What goes with runs alone, what with a scenario, and the modes that decide over no runs.
 OF_RUNS = ("require", "spread", "against", "until", "most", "least", "settling")
-MODES = ("print_jobs", "print_scenario", "share", "collect")
+OF_SCENARIOS = ("scenario", "vary", "least", "until", "first", "last", "v3")
+MODES = ("print_jobs", "print_scenario", "share")
 
 
 def columns_of(text: str | None) -> list[str]:
@@ -135,11 +134,6 @@ def columns_of(text: str | None) -> list[str]:
     for column in columns:
         refuse(column not in ALL_COLUMNS, f"there is no column {shown(column)}; there are {', '.join(ALL_COLUMNS)}")
     return list(dict.fromkeys(columns))
-
-
-def given(kind: str) -> Callable[[str], Given]:
-    """What takes a word of the command line as a setting that is given by an option."""
-    return lambda words: Given(kind, words)
 
 
 def description() -> str:
@@ -155,44 +149,35 @@ def options_of(words: Sequence[str]) -> argparse.Namespace:
         "--mark", "--collect", flags=["--table", "--v3", "--rest", "--print-scenario"], lists=["--require"],
         numbers={"--most": None, "--jobs": None, "--shares": None})
     parser.add_argument("scenario", nargs="?", metavar="SCENARIO")
-    parser.add_argument("--vary", action="append", default=[], type=given("vary"))
-    parser.add_argument("--zip", action="append", dest="vary", type=given("zip"))
+    parser.add_argument("--vary", action="append", default=[], type=partial(Given, "vary"))
+    parser.add_argument("--zip", action="append", dest="vary", type=partial(Given, "zip"))
     parser.add_argument("--price", type=float)
-    options = parser.parse_args(words)
-    check_mode(options)
-    check_runs(options)
-    return options
+    return checked(parser.parse_args(words))
 
 
-def check_mode(options: argparse.Namespace) -> None:
-    """Makes sure that what is asked for is one thing."""
-    if options.collect and (options.scenario or options.vary or options.least or options.until
-                            or options.first or options.last or options.v3
-                            or any(getattr(options, mode) for mode in MODES[:-1])):
-        raise Fault("--collect reads what was run, and takes no SCENARIO, --vary, --print-jobs or --print-scenario")
+def checked(options: argparse.Namespace) -> argparse.Namespace:
+    """Makes sure that what is asked for is one thing, and that what is decided over runs has runs for that."""
+    runs_none = any(getattr(options, mode) for mode in MODES)
+    refuse(options.collect and (runs_none or any(getattr(options, name) for name in OF_SCENARIOS)),
+           "--collect reads what was run, and takes no SCENARIO, --vary, --print-jobs or --print-scenario")
     refuse(not options.collect and not (options.scenario and (options.vary or options.require or options.columns)),
            "a SCENARIO and at least one --vary, --require or --columns are needed (--help tells the usage)")
     refuse(options.print_scenario and (options.first or options.last),
            "--from and --to go with runs, and nothing is run")
-    if any(getattr(options, mode) for mode in MODES[:-1]) and any(getattr(options, of) for of in OF_RUNS):
-        raise Fault("--require and --spread go with runs, and nothing is run" if not options.share else
-                    "a share writes all rows: --require and --spread go with --collect")
+    refuse(runs_none and any(getattr(options, of) for of in OF_RUNS),
+           "a share writes all rows: --require and --spread go with --collect" if options.share else
+           "--require and --spread go with runs, and nothing is run")
     for name, wanted in (("shares", "print_jobs"), ("rest", "print_jobs"), ("results", "share")):
         refuse(getattr(options, name) and not getattr(options, wanted),
                f"--{name} goes with --{wanted.replace('_', '-')} (--help tells the usage)")
     refuse(options.mark and not (options.share or options.collect),
            "--mark goes with --share or --collect (--help tells the usage)")
     refuse(options.share and not options.results, "--share goes with --results (--help tells the usage)")
-    refuse(options.cluster and (options.collect or any(getattr(options, mode) for mode in MODES)),
-           "--cluster goes with runs (--help tells the usage)")
+    refuse(options.cluster and (options.collect or runs_none), "--cluster goes with runs (--help tells the usage)")
     refuse(options.price is not None and not 0 <= options.price <= PRICE_MOST, f"--price is 0 to {PRICE_MOST:,}")
     refuse(options.window and not moment_of("--window", options.window), "--window is a time over 0")
     refuse(not 1 <= (options.jobs or 1) <= JOBS_MOST or options.jobs == 0, f"--jobs is 1 to {JOBS_MOST}")
     refuse(options.shares is not None and not 1 <= options.shares <= SHARES_MOST, f"--shares is 1 to {SHARES_MOST}")
-
-
-def check_runs(options: argparse.Namespace) -> None:
-    """Makes sure that what is decided over runs has runs to be decided over."""
     refuse(options.settling and os.path.splitext(options.settling)[1].lower() not in FORMATS,
            f"{options.settling} ends in none of {', '.join(FORMATS)}")
     for name in ("against", "until", "settling"):
@@ -206,12 +191,7 @@ def check_runs(options: argparse.Namespace) -> None:
     refuse(options.until and options.least, "--least goes on until each value is decided, and takes no --until")
     refuse(options.most is not None and not (options.most >= 1 and (options.until or options.least)),
            "--most is a number of runs from 1 on, and goes with --until or --least")
-
-
-def print_scenario(sweep: Sweep, output: str | None) -> None:
-    refuse(len(sweep.settings) != 1, f"--print-scenario prints one variant, and these are {len(sweep.settings):,}")
-    check_output(output, sweep.inputs())
-    write_text(output, sweep.text(sweep.settings.words(1)))
+    return options
 
 
 def write_rows(table: Table, rows: Iterable[list[str]], options: argparse.Namespace) -> bool:
@@ -230,18 +210,6 @@ def write_rows(table: Table, rows: Iterable[list[str]], options: argparse.Namesp
         text = table_text(table.header, kept) if options.table else csv_text([table.header, *kept])
         write_text(options.output, text)
     return has_failed
-
-
-def write_table(table: Table, settings: Settings, options: argparse.Namespace) -> bool:
-    """Writes rows that are all there, put together or compared with one another as is asked for; returns whether one of
-    them reports a failure."""
-    has_failed = any(row[len(table.settings)] for row in table.rows)
-    tied = settings.tied(options.spread)
-    if options.against:
-        table = against(table, tied, *base_of(options))
-    else:
-        table = folded(table, tied)
-    return write_rows(table, table.rows, options) or has_failed
 
 
 def has_other_scenario(options: argparse.Namespace) -> bool:
@@ -279,14 +247,17 @@ def check_spread(settings: Settings, options: argparse.Namespace, requirements: 
 
 
 def finish(header: list[str], rows: Iterator[list[str]], settings: Settings, options: argparse.Namespace) -> bool:
-    """Writes the rows as they are asked for; returns whether one of them reports a failure."""
-    columns = columns_of(options.columns)
-    if options.spread:
-        return write_table(selected(Table(header, list(rows), columns_in(header)), columns), settings, options)
-    known = columns_in(header)
+    """Writes the rows with the columns that are asked for, put together or compared with one another if that is asked
+    for; returns whether one of them reports a failure."""
+    columns, known = columns_of(options.columns), columns_in(header)
     places = [*range(len(header) - len(known)), *(header.index(column, -len(known)) for column in columns)]
-    table = Table([header[place] for place in places], [], columns)
-    return write_rows(table, ([row[place] for place in places] for row in rows), options)
+    table, chosen = Table([header[at] for at in places], [], columns), ([row[at] for at in places] for row in rows)
+    if not options.spread:
+        return write_rows(table, chosen, options)
+    table, tied = table._replace(rows=list(chosen)), settings.tied(options.spread)
+    has_failed = any(row[len(table.settings)] for row in table.rows)
+    table = against(table, tied, *base_of(options)) if options.against else folded(table, tied)
+    return write_rows(table, table.rows, options) or has_failed
 
 
 def status_of(requirements: Requirements, options: argparse.Namespace, is_interrupted: bool, has_failed: bool,
@@ -326,20 +297,6 @@ def extra_wanted(requirements: Requirements, options: argparse.Namespace) -> Ext
     return extra_of(columns, WINDOW if window is None else window, options.price)
 
 
-def check_window(sweep: Sweep) -> None:
-    """Makes sure that something is counted, unless the horizon is varied."""
-    first, horizon = sweep.window.first, sweep.scenario.get("horizon")
-    if first is not None and isinstance(horizon, int) and first > horizon and "horizon" not in sweep.settings.values:
-        raise Fault(f"--from {first} ms is after the horizon of {horizon} ms")
-
-
-def rows_of_all(sweep: Sweep, requirements: Requirements, options: argparse.Namespace) -> Iterator[list[str]]:
-    """The rows of all variants, each looked at as it comes."""
-    numbers, header = range(1, len(sweep.settings) + 1), sweep.header()
-    for _, outcome in sweep.outcomes(numbers, options.jobs, Told(len(numbers))):
-        yield from requirements.looked_at(header, outcome.rows, outcome.ages)
-
-
 def run_groups(groups: Groups, requirements: Requirements, options: argparse.Namespace) -> bool:
     """Runs what is put together, as far as is asked for; whether what was to be reached has been."""
     total = len(groups.sweep.settings)
@@ -366,7 +323,10 @@ def main_of_runs(sweep: Sweep, requirements: Requirements, options: argparse.Nam
     if options.settling:
         check_library("matplotlib", "python3-matplotlib")
     if not options.spread and not options.least:
-        has_failed = finish(sweep.header(), rows_of_all(sweep, requirements, options), sweep.settings, options)
+        numbers, header = range(1, len(sweep.settings) + 1), sweep.header()
+        rows_of_all = (row for _, outcome in sweep.outcomes(numbers, options.jobs, Told(len(numbers)))
+                       for row in requirements.looked_at(header, outcome.rows, outcome.ages))
+        has_failed = finish(header, rows_of_all, sweep.settings, options)
         return status_of(requirements, options, sweep.interrupted, has_failed)
     if options.least:
         name = options.least.partition("=")[0]
@@ -415,14 +375,18 @@ def main(words: Sequence[str]) -> int:
     searched = [Given("vary", options.least)] if options.least else []
     window = Window(*window_of(options.first, options.last))
     sweep = Sweep(options.scenario, Settings([*searched, *options.vary]), options.scripts, window, options.v3)
-    check_window(sweep)
+    first, horizon = window.first, sweep.scenario.get("horizon")
+    if first is not None and isinstance(horizon, int) and first > horizon and "horizon" not in sweep.settings.values:
+        raise Fault(f"--from {first} ms is after the horizon of {horizon} ms")
     if options.print_scenario:
-        print_scenario(sweep, options.output)
+        refuse(len(sweep.settings) != 1, f"--print-scenario prints one variant, and these are {len(sweep.settings):,}")
+        check_output(options.output, sweep.inputs())
+        write_text(options.output, sweep.text(sweep.settings.words(1)))
         return 0
     if options.print_jobs:
         sweep.program = named_program(options.program)
-        jobs = Jobs(options.print_jobs, options.shares, options.rest)
-        print_jobs(sweep, head_of(sweep, program_of(options.program)), jobs)
+        head = head_of(sweep, program_of(options.program))
+        print_jobs(sweep, head, options.print_jobs, options.shares or head.variants, options.rest)
         return 0
     sweep.program = program_of(options.program)
     options.inputs = sweep.inputs()

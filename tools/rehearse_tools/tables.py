@@ -11,7 +11,7 @@ from collections.abc import Iterable, Iterator, Sequence
 from typing import NamedTuple
 
 from .requirements import AGES, folded_as, interval_of_mean
-from .runs import ALL_COLUMNS, columns_in
+from .runs import ALL_COLUMNS
 from .statistics import Difference, Interval, half_width, holm, paired, percentile_interval
 from .units import decimal, number_of
 
@@ -69,15 +69,6 @@ def folded(table: Table, tied: Iterable[str]) -> Table:
     return Table([*(header[place] for place in places), "runs", *told],
                  [[*key, str(len(group)), *itertools.chain(*map(spread_of, columns, zip(*group)))]
                   for key, group in groups.items()], told)
-
-
-def selected(table: Table, columns: Sequence[str]) -> Table:
-    """The rows with these columns of the report alone."""
-    header = table.header
-    known = columns_in(header)
-    places = [*range(len(header) - len(known)), *(header.index(column, -len(known)) for column in columns)]
-    return Table([header[place] for place in places], [[row[place] for place in places] for row in table.rows],
-                 list(columns))
 
 
 def differences_of(base: Sequence[Row], other: Sequence[Row]) -> list[Difference | None]:

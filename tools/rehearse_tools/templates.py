@@ -7,7 +7,7 @@ from typing import Any
 
 from .actors import Mapping, Subscription, Wiring
 from .console import Fault, library, refuse, shown
-from .found import STEPS_MOST, Found, last_name, named, number_in, table, tables, truth_in
+from .queues import STEPS_MOST, Found, last_name, named, number_in, table, tables, truth_in
 
 PSEUDO = {"AWS::Partition": "aws", "AWS::Region": "region", "AWS::AccountId": "000000000000", "AWS::StackName": "stack",
           "AWS::URLSuffix": "amazonaws.com"}

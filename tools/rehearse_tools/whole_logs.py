@@ -1,27 +1,39 @@
-"""A log that is whole, of which only that is looked up which no figure says. The tools import it; it is not a command.
+"""What is known of a log of which no row is read here. The tools import it; it is not a command.
 
-The program reads each row for its figures, and the report behind the log says whether rows lack. So the rows are not
-read here: they are counted and searched, which takes a fraction of the time.
+The program counts its figures, as it reads a log by a scenario, which says whose names stand in it. Here that is one
+with these names alone. Its queues have the places that the ids of their messages tell, since receipts are those of a
+queue by its number.
+
+Of a log that is whole the report says whether rows lack. So what no figure says is looked up: rows are counted and
+searched, which takes a fraction of the time.
 """
 from __future__ import annotations
 
+import csv
+import io
 import mmap
 import re
-from collections.abc import Iterator, Mapping
+import tempfile
+from collections.abc import Iterator, Mapping, Sequence
+from itertools import count
+from typing import Any, NamedTuple
 
-from .console import Fault
+from .console import Fault, refuse
+from .figures import Figured, figures_in
 from .logs import FINAL_HEADER, LOG_HEADER, Log
+from .programs import program_of, ran
 from .replay import ENTERS, LEAVES
+from .runs import first_line
+from .scenarios import written
 
+# The longest horizon that a scenario may have, in milliseconds, and how many queues it has at most.
+HORIZON, QUEUES_MOST = 2_592_000_000, 1_000
+NO_ROW = re.compile(r":([0-9]+): no row of this scenario's log")
 HEADER, FINALS = (f"{','.join(header)}\n".encode() for header in (LOG_HEADER, FINAL_HEADER))
 # The queue and the agent of a row, and the number of the queue where a message comes in.
 NAMES = re.compile(rb"^[0-9]+,([^,\n]*),([^,\n]*),(?:(?:send|arrive),new,m-([0-9]{1,9})-)?", re.M)
 # So many bytes are looked at once, and so many blocks of them for names at first.
 BLOCK, SAMPLES = 1 << 18, 16
-
-
-class NotWhole(Fault):
-    """That a log has no rows, or does not end with a line."""
 
 
 class WholeLog:
@@ -31,11 +43,10 @@ class WholeLog:
         try:
             self.data = mmap.mmap(log.kept.fileno(), 0, access=mmap.ACCESS_READ)
         except (OSError, ValueError):
-            raise NotWhole("it cannot be mapped") from None
+            raise Fault("it cannot be mapped") from None
         after = self.data.rfind(b"\n" + FINALS) + 1
         self.begin, self.end = len(HEADER), after or len(self.data)
-        if self.data[:self.begin] != HEADER or self.data[-1:] != b"\n":
-            raise NotWhole("it has another header, or ends within a line")
+        refuse(self.data[:self.begin] != HEADER or self.data[-1:] != b"\n", "it has another header, or is cut")
 
     def rest(self) -> list[str]:
         """The lines behind the header of the final queues; none if that does not follow the rows."""
@@ -96,3 +107,42 @@ class WholeLog:
                     found[queue] = int(at)
                     del left[queue]
         return found
+
+
+class Names(NamedTuple):
+    """The names in a log: of queues, and of all who act or stand in a detail; and the numbers of queues that are known
+    by the ids of their messages."""
+    queues: set[str]
+    agents: set[str]
+    numbers: dict[str, int]
+
+    def in_places(self) -> list[str]:
+        """The queues, each whose number is known in its place. Where no other queue is left, a name is made up."""
+        placed = {number: name for name, number in self.numbers.items() if number < QUEUES_MOST}
+        others = sorted(self.queues - {*placed.values()})
+        made_up = (name for number in count() if (name := f"_{number}") not in self.queues | self.agents)
+        found = [placed[place] if place in placed else others.pop() if others else next(made_up)
+                 for place in range(max(placed, default=-1) + 1)]
+        return [*found, *others]
+
+
+def figures_of_log(log: Log, names: Names, words: Sequence[str]) -> Figured:
+    """The figures that the program counts, with these options, of a log that is kept."""
+    if not names.queues:
+        return {}
+    scenario = written({"version": 1, "horizon": HORIZON, "queue": [{"name": name} for name in names.in_places()],
+                        "actor": [consumer(name, min(names.queues)) for name in sorted(names.agents - names.queues)]})
+    with tempfile.TemporaryFile() as out:
+        command = [program_of(None), "figures", *words, "/dev/stdin", log.place]
+        status, told = ran(command, scenario.encode(), out)
+        line = first_line(told) if status else ""
+        no_row = NO_ROW.search(line)
+        refuse(no_row, f"{log.path} line {no_row and no_row[1]} is no row of a log")
+        refuse(status, f"{log.name}: {line}")
+        out.seek(0)
+        with io.TextIOWrapper(out, newline="") as records:
+            return figures_in(csv.reader(records))
+
+
+def consumer(name: str, queue: str) -> dict[str, Any]:
+    return {"name": name, "kind": "consumer", "queue": queue, "service_min_ms": 1, "service_max_ms": 1}
