@@ -133,10 +133,10 @@ def rules() -> dict[str, dict[str, str]]:
 
 
 def printed_by_summary() -> dict[str, Any]:
-    """What tools/summary prints: the lines of a queue, each with the name of what writes its number, and which are shares
-    of what came in. And the kinds of actors, and the first record of a script."""
+    """What tools/summary prints: the lines of a queue but for those of --door, each with the name of what writes its
+    number, and which are shares of what came in. And the kinds of actors, and the first record of a script."""
     lines = [{"key": row["key"], "label": row["label"], "always": bool(row["always"]), "written": row["written"]}
-             for row in rows_of("lines")]
+             for row in rows_of("lines") if not row["key"].startswith("door_")]
     return {"BACKLOG": summaries.BACKLOG, "SHARES": summaries.SHARES, "LINES": lines, "ACTORS": list(ACTORS),
             "SCRIPT_HEADER": ",".join(scripts.HEADER)}
 

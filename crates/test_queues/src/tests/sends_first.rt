@@ -132,7 +132,7 @@ impl Calls for SendsFirst {
     }
 
     fn least_due(&self) -> Option<Key> {
-        self.queue.least_due()
+        *self.queue.least_due()
     }
 
     fn counts(&self) -> Counts {
