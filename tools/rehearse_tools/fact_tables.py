@@ -5,7 +5,7 @@
   which alone it may stand, `least` the key that is its least value, `replaces` those in whose place it may stand, and
   `items` the bounds of each number of a list. `about` is for all who ask what a key is, and `rule` for docs/FORMATS.md
   alone. The row `latency` of a table stands for the keys of the table latency.
-- kinds.csv has the kinds of keys: what one is told as, and of a list what it has, what an item is, and by which rule.
+- kinds.csv has the kinds of keys: what one is called, and of a list what it has, what an item is, and by which rule.
 - refusals.csv has the refusals by number. Those of calls have no status of the program; `aws` is the error of SQS, and
   `remedy` what one may do.
 - columns.csv has the columns of the report, with the rows that they count, the figures of which each is the sum, and
